@@ -1,0 +1,5 @@
+pub mod SortedLists
+pub mod Meaning
+pub mod Refusals
+pub mod Calls
+pub mod Promises

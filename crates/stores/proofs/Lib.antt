@@ -1,3 +1,5 @@
 pub mod Merging
 pub mod Inserting
+pub mod Removing
+pub mod Counting
 pub mod Answering

@@ -1,10 +1,11 @@
 -- What the cells of a slice hold: the list of each queue, how many entries it has, and where a record stands.
 use mathlib.Core.Path.{_≡_}
-use mathlib.Core.Bool.{Bool, true, false, cond, not}
-use mathlib.Core.List.{List, [], _∷_}
+use mathlib.Core.Bool.{Bool, false, cond, not}
+use mathlib.Core.List.{List, [], _∷_, map}
 use Prim.Native.Nat.{ℕ, _+_, _<_}
 use lib.Dec.{eqb}
 use lib.ListN.{length}
+use Rattle.std.specs.Iters.{counting}
 use Rattle.std.specs.Options.{isSome}
 use Rattle.std.specs.shelf.Lists.{At, countBy}
 use Rattle.std.specs.declared.option.Option.{Option}
@@ -49,6 +50,19 @@ entering le (Some e) xs = insert (precedes-by le) e xs
 abbrev pub queue-of : {T : Type 0} → (T → T → Bool) → ℕ → List (Cell T) → List (Entry T)
 queue-of le q [] = []
 queue-of le q (c ∷ cs) = entering le (entry-in q c) (queue-of le q cs)
+
+-- what f gives for the number of each queue
+unfoldable pub by-queue : {A : Type 0} → (ℕ → A) → List A
+by-queue f = map f (counting 0 32)
+
+-- the lists of all queues
+abbrev pub lists-of : {T : Type 0} → (T → T → Bool) → List (Cell T) → List (List (Entry T))
+lists-of le cs = by-queue (λ q. queue-of le q cs)
+
+-- the record of a cell, if any, is in one of the queues
+abbrev pub Numbered : {T : Type 0} → Cell T → Type 0
+Numbered None = Unit {0}
+Numbered (Some r) = r .queue < 32
 
 -- how many cells have a record
 abbrev pub occupied : {T : Type 0} → List (Cell T) → ℕ

@@ -5,12 +5,10 @@ ghost use lib.ListN.{length, replicate};
 ghost use Rattle.std.specs.declared.option.Option.the-variants.{None};
 ghost use Rattle.records.specs.Cells.{position, empty, Stamped-at, Front-at, earlier, queued, moved};
 use crate::cells::Record;
-use crate::cells::RecordClone;
 use crate::cells::entry_in;
 use crate::cells::moved;
 use crate::cells::with_stamp;
 use elements::Entry;
-use elements::EntryClone;
 use elements::Ordered;
 use elements::precedes;
 

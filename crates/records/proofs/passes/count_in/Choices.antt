@@ -1,5 +1,5 @@
 use mathlib.Core.Path.{_≡_}
-use Prim.Native.Nat.{_+_, _≤_}
+use Prim.Native.Nat.{_≤_}
 use lib.ListN.{take}
 use Rattle.records.specs.Cells.{queued}
 use Rattle.records.proofs.passes.count_in.Given as given

@@ -3,12 +3,12 @@ ghost use mathlib.Core.Path.{_≡_};
 ghost use mathlib.Core.List.{map};
 ghost use Prim.Native.Nat.{_<_, _≤_};
 ghost use lib.ListN.{length, set};
-ghost use denote.Ref.{name, now};
+ghost use denote.Ref.{name};
 ghost use Rattle.stores.specs.Meaning.{Well-formed, fresh-bare};
 ghost use Rattle.stores.specs.Refusals.{Tests};
 ghost use Rattle.stores.specs.declared.refusals.Unfit.the-variants.{OutOfRange};
 ghost use Rattle.records.specs.Cells.{position, empty, Stamped-at, Front-at, queued, moved};
-ghost use Rattle.table.specs.Tables.{meant, Sound, Fit};
+ghost use Rattle.table.specs.Tables.{meaning-of, Sound-table, Fit};
 use elements::Entry;
 use elements::Ordered;
 use records::Record;
@@ -24,6 +24,7 @@ use stores::Refusal;
 use stores::Unfit;
 use stores::sizes_allowed;
 
+// The records of all queues, the next stamp, and how many stamps there are.
 #[derive(Drop)]
 pub struct Table<'a, T> {
     cells: &'a mut [Option<Record<T>>],
@@ -48,9 +49,9 @@ pub fn make<'a, T: Ordered + Copy>(
     stamps: u16,
 ) -> Table<'a, T>
     requires { ⌜ Fit (length (now slice)) cells stamps ⌝ }
-    ensures sound { λ r. ⌜ Sound (now (r .cells)) (r .next) (r .stamps) ⌝ }
-    ensures formed { λ r. ⌜ Well-formed (T·Ordered .le) (meant (T·Ordered .le) (now (r .cells)) (r .next) (r .stamps)) ⌝ }
-    ensures meaning { λ r. ⌜ meant (T·Ordered .le) (now (r .cells)) (r .next) (r .stamps) ≡ fresh-bare cells stamps ⌝ }
+    ensures sound { λ r. ⌜ Sound-table r ⌝ }
+    ensures formed { λ r. ⌜ Well-formed (T·Ordered .le) (meaning-of (T·Ordered .le) r) ⌝ }
+    ensures meaning { λ r. ⌜ meaning-of (T·Ordered .le) r ≡ fresh-bare cells stamps ⌝ }
 {
     clear(slice);
     Table {
@@ -109,9 +110,9 @@ impl<'a, T: Ordered + Copy> Table<'a, T> {
 pub impl<'a, T: Ordered + Copy> Agenda for Table<'a, T> as TableAgenda {
     type Item = T;
 
-    ghost meaning = { λ t. meant (T·Ordered .le) (now (t .cells)) (t .next) (t .stamps) };
+    ghost meaning = { λ t. meaning-of (T·Ordered .le) t };
 
-    ghost sound = { λ t. Sound (now (t .cells)) (t .next) (t .stamps) };
+    ghost sound = { λ t. Sound-table t };
 
     fn put(&mut self, queue: u8, element: T) -> Result<u16, Refusal> {
         if queue >= QUEUES {

@@ -13,7 +13,7 @@ use Rattle.stores.specs.Meaning.{Meaning}
 use Rattle.stores.specs.Calls.{put-answer, put-after}
 use Rattle.stores.specs.Promises.{Puts}
 use Rattle.dispatch.specs.declared.Rejected.{Rejected}
-use Rattle.dispatch.specs.Dispatching.{after-put, after-puts, Accepted, Admitted, Admits}
+use Rattle.dispatch.specs.Dispatching.{after-put, after-puts, Accepted, Admitted, Admits, Served, Dispatched}
 
 module _ {T : Type 0} (le : T → T → Bool) where
   pub after-puts-push : (m : Meaning T) (xs : List T) (x : T) → after-puts le m (xs ++ x ∷ []) ≡ after-put le (after-puts le m xs) x
@@ -52,3 +52,10 @@ module _ {T : Type 0} (le : T → T → Bool) where
     pub rejected : (f : Refusal) → Puts le n 0 (getD xs i d) (Err f) o → o ≡ n → Admits le m xs (Err (record { index = i; refusal = f })) o
     rejected f p e =
         (here, subst (Admitted le m (take i xs)) (sym e) so-far, p .answer ∙ ap (λ q. put-answer q 0) (sym e))
+
+  pub dispatched : (m k n : Meaning T) (xs ys : List T) → Admitted le m xs k → Served le k ys n → Dispatched le m xs ys n
+  dispatched m k n xs ys a s = record {
+    accepted = a .accepted;
+    served = subst (λ q. Served le q ys n) (a .after) s;
+    formed = λ f. s .formed (a .formed f);
+  }

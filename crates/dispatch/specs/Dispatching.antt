@@ -9,9 +9,13 @@ use Rattle.std.specs.Of.Vec.{vec-items}
 use Rattle.std.specs.Results.{isOk}
 use Rattle.std.specs.declared.result.Result.{Result}
 use Rattle.std.specs.declared.result.Result.the-variants.{Ok, Err}
-use Rattle.stores.specs.Meaning.{Meaning, Well-formed, list-of}
+use Rattle.stores.specs.declared.refusals.Refusal.{Refusal}
+use Rattle.stores.specs.declared.refusals.Refusal.the-variants.{QueueNumber, SameQueue, AtLimit, NoCell, NoStamp, NotQueued}
+use Rattle.stores.specs.Meaning.{Fixed, Meaning, Well-formed, list-of, limits-of, fresh}
 use Rattle.stores.specs.Calls.{put-answer, put-after, with-list}
 use Rattle.dispatch.specs.declared.Rejected.{Rejected}
+use Rattle.dispatch.specs.declared.Failure.{Failure}
+use Rattle.dispatch.specs.declared.Failure.the-variants.{Refused, NoMemory}
 use Rattle.dispatch.specs.Service.{elements-of}
 
 module _ {T : Type 0} (le : T → T → Bool) where
@@ -47,3 +51,39 @@ module _ {T : Type 0} (le : T → T → Bool) where
     pub fixed : n .fixed ≡ m .fixed
     pub held : n .held ≤ m .held
     pub formed : Well-formed le m → Well-formed le n
+
+  -- xs were put into queue 0, and then ys were taken from it until it was empty
+  pub record Dispatched (m : Meaning T) (xs ys : List T) (n : Meaning T) : Type 0 where
+    pub accepted : Accepted m xs
+    pub served : Served (after-puts m xs) ys n
+    pub formed : Well-formed le m → Well-formed le n
+
+  -- an order is rejected where its put is refused; for want of memory all wait, and none is taken
+  abbrev pub Failed : Meaning T → List T → Failure → Meaning T → Type 0
+  Failed m xs (Refused e) n = Admits m xs (Err e) n
+  Failed m xs NoMemory n = Admitted m xs n
+
+  -- nothing was put yet, and queue 0 has no limit
+  pub record Unused (m : Meaning T) : Type 0 where
+    pub formed : Well-formed le m
+    pub empty : m .state ≡ fresh
+    pub unlimited : limits-of (m .fixed) 0 ≡ []
+
+-- cells and stamps for n orders
+pub record Enough (f : Fixed) (n : ℕ) : Type 0 where
+  pub cells : n ≤ f .cells
+  pub stamps : n ≤ f .stamps
+
+-- after k orders there is no cell left, or else no stamp
+abbrev pub Lacks : Fixed → ℕ → Refusal → Type 0
+Lacks f k NoCell = (k ≡ f .cells) × (k ≤ f .stamps)
+Lacks f k NoStamp = (k ≡ f .stamps) × (k < f .cells)
+Lacks f k QueueNumber = ⊥
+Lacks f k SameQueue = ⊥
+Lacks f k (AtLimit h) = ⊥
+Lacks f k (NotQueued h) = ⊥
+
+-- what keeps n orders from being served by an unused store
+abbrev pub Hindered : Fixed → ℕ → Failure → Type 0
+Hindered f n (Refused e) = (e .index < n) × Lacks f (e .index) (e .refusal)
+Hindered f n NoMemory = Enough f n

@@ -1,6 +1,6 @@
 -- Digits in front of what is no digit.
 use mathlib.Core.Path.{_≡_, refl, sym, ap, subst, _∙_}
-use mathlib.Core.List.{List, [], _∷_, _++_}
+use mathlib.Core.List.{List, [], _∷_, _++_, map}
 use Prim.Native.Nat.{ℕ, _+_, _-_, _*_, _≤_, _<_, _^_, min}
 use native.Mathlib.Omega.{arith}
 use lib.ListN.{length, take, drop, getD, take-append-drop}
@@ -72,5 +72,14 @@ own : Numerals (All Digit) value
 own = numerals-by-fold (All Digit) (search needs) read-on (search needs)
 
 -- a numeral is what is printed of its value
-pub numeral-printed : (ds : List ℕ) → Numeral ds → value ds < 2 ^ 64 → ds ≡ decimal (value ds)
+numeral-printed : (ds : List ℕ) → Numeral ds → value ds < 2 ^ 64 → ds ≡ decimal (value ds)
 numeral-printed ds p small = sym (decimal-value own ds (p .digits) (p .some) (p .first) small)
+
+-- so numerals are what is printed of the numbers that are told of them, where none is the largest
+pub numerals-printed : (ds : List (List ℕ)) → All Numeral ds → All (λ n. n < 4294967295) (map told ds) → ds ≡ map decimal (map told ds)
+numerals-printed [] p small = refl
+numerals-printed (d ∷ ds) p small =
+    let v : told d ≡ value d = omega (arith, small .0) in
+    let e : d ≡ decimal (told d) = numeral-printed d (p .0) (omega (arith, small .0)) ∙ ap decimal (sym v) in
+    let es = numerals-printed ds (p .1) (small .1) in
+    λ j. e j ∷ es j

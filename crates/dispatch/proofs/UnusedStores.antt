@@ -18,7 +18,7 @@ use Rattle.elements.specs.Order.{Strict, precedes-by, stamp-of}
 use Rattle.stores.specs.declared.refusals.Refusal.{Refusal}
 use Rattle.stores.specs.declared.refusals.Refusal.the-variants.{QueueNumber, SameQueue, AtLimit, NoCell, NoStamp, NotQueued}
 use Rattle.stores.specs.SortedLists.{merge, insert, tally}
-use Rattle.stores.specs.Meaning.{State, Fixed, Meaning, Well-formed, list-of, live, limits-of, count-of, reached, reached-height, fresh}
+use Rattle.stores.specs.Meaning.{State, Fixed, Meaning, Well-formed, list-of, live, limits-of, count-of, reached, reached-height, fresh, fresh-bare}
 use Rattle.stores.specs.Calls.{put-answer, put-after}
 use Rattle.stores.proofs.Merging.{merge-nil, merge-assoc, merge-comm}
 use Rattle.stores.proofs.Inserting.{tally-insert}
@@ -174,3 +174,11 @@ module _ {T : Type 0} (le : T → T → Bool) where
   pub hindered : Strict before stamp-of → (m : Meaning T) → Unused le m → (xs : List T) (n : Meaning T) (e : Rejected) → Admits le m xs (Err e) n → (e .index < length xs) × Lacks (m .fixed) (e .index) (e .refusal)
   hindered law m unused xs n e r =
       (r .0, subst (λ k. Lacks (m .fixed) k (e .refusal)) (length-take-le (e .index) xs (omega (arith, r .0))) (lacks law m unused (take (e .index) xs) n (r .1) (e .refusal) (r .2)))
+
+  -- a store by itself with nothing put yet is unused
+  pub unused-bare : (m : Meaning T) (c s : ℕ) → Well-formed le m → m ≡ fresh-bare c s → Unused le m
+  unused-bare m c s formed e = record {
+    formed = formed;
+    empty = ap (λ o. o .state) e;
+    unlimited = ap (λ o. limits-of (o .fixed) 0) e;
+  }

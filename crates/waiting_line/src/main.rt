@@ -15,6 +15,7 @@ use table::TableAgenda;
 use table::make;
 
 const CELLS: u16 = 4096;
+
 const STAMPS: u16 = 32768;
 
 // What is printed for the text, by a table.
@@ -38,3 +39,6 @@ fn run(rt: &LibcRuntime) -> Result<(), AnyError> {
 fn main(rt: LibcRuntime) -> Result<(), AnyError> {
     rt.report(run(&rt))
 }
+
+#[cfg(test)]
+mod tests;

@@ -1,0 +1,4 @@
+pub mod Sorting
+pub mod Admitting
+pub mod Serving
+pub mod UnusedStores

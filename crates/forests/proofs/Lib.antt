@@ -1,0 +1,4 @@
+pub mod Listing
+pub mod Layouts
+pub mod Parting
+pub mod Joining

@@ -8,7 +8,7 @@ use Rattle.elements.specs.Order.{Strict, precedes-by, stamp-of}
 use Rattle.cells.specs.Trees.{Tree, leaf, node, root}
 use Rattle.cells.proofs.Soundness.{Lawful}
 use Rattle.forests.specs.Forests.{Layout, shaped}
-use Rattle.forests.proofs.Listing.{list-long, sorted-list}
+use Rattle.forests.proofs.Listing.{list-long, tally-root, sorted-list}
 
 pub record Consistent {T K : Type 0} (L : Layout T K) : Type 0 where
   pub child-is : (c s : Tree (Entry T)) → L .child (L .link c s) ≡ root c
@@ -26,6 +26,7 @@ lawful L Shape law laid shape-leaf shape-one = record {
   valid-one = λ i e. (shape-one i e, (tt, tt, tt));
   list-leaf = refl;
   list-one = λ i e. refl;
+  list-root = λ i e c s. tally-root (precedes-by (L .le)) stamp-of i e c s;
   list-long = list-long (precedes-by (L .le));
   sorted = λ t once h. sorted-list (precedes-by (L .le)) stamp-of law t once (h .1);
 }

@@ -14,8 +14,8 @@ use Rattle.stores.specs.SortedLists.{merge, tally}
 use Rattle.stores.proofs.Merging.{merge-nil, tally-merge}
 use Rattle.cells.specs.Trees.{Tree, leaf, node, root, size, uses, Linked, tree-at}
 use Rattle.cells.specs.Forms.{Stored-at, Built}
-use Rattle.cells.proofs.Trees.{framed, set-framed, read-back, node-at, leaf-at}
-use Rattle.forests.specs.Forests.{Layout, Any, listed, shaped}
+use Rattle.cells.proofs.Trees.{framed, set-framed, read-back, Node, node-at, leaf-at}
+use Rattle.forests.specs.Forests.{Layout, Before, listed, shaped}
 use Rattle.forests.specs.Parts.{Forest-at, Apart, Parted, Rooted}
 use Rattle.forests.proofs.Layouts.{Consistent}
 use Rattle.forests.proofs.Listing.{list-moved, tally-first, tally-lone}
@@ -89,6 +89,24 @@ module _ {T K : Type 0} (L : Layout T K) where
       ordered = (h .stored .valid .1 .0, h .stored .valid .1 .1, tt);
     }
 
+    -- a tree with no siblings
+    pub rooted-lone : {P : Tree (Entry T) → Type 0} {ls : List K} {es : List (Entry T)} {i : ℕ} (t : Tree (Entry T)) → Before leaf t → Stored-at (shaped L P) ls es (Some i) t → Rooted L ls es i t
+    rooted-lone leaf b h = absurd b
+    rooted-lone {ls = ls} {es = es} {i = i} (node j e c s) b h =
+        let at = h .at in
+        let same : i ≡ j = cc in
+        subst (λ k. Rooted L ls es k (node j e c s)) (sym same) (record {
+          entry = e;
+          children = c;
+          siblings = s;
+          is = ap (λ x. node j e c x) b;
+          within = h .stored .linked .0;
+          linked = h .stored .linked .1;
+          below = h .stored .linked .2;
+          held = h .stored .held;
+          ordered = h .stored .valid .1;
+        })
+
     module _ (law : Strict (precedes-by (L .le)) (stamp-of {T = T})) where
       -- nothing is moved yet
       pub part-start : {P Q : Tree (Entry T) → Type 0} {ls : List K} {es : List (Entry T)} {a : Option ℕ} {t : Tree (Entry T)} → Q leaf → Forest-at L P ls es a t → Parted L P Q ls es (listed (precedes-by (L .le)) t) (uses t) (size t) ls a None
@@ -127,6 +145,17 @@ module _ {T K : Type 0} (L : Layout T K) where
         others = λ k z. q .others k (p .cells k ∙ z) ∙ p .others k z;
       }
 
+      -- the first root of the first forest
+      module _ {P Q : Tree (Entry T) → Type 0} {ls₀ ls : List K} {es list : List (Entry T)} {own : ℕ → ℕ} {count : ℕ} {a b : Option ℕ} (p : Parted L P Q ls₀ es list own count ls a b) {i : ℕ} (at : a ≡ Some i) where
+        pub first-node : Node (p .first) i
+        first-node = node-at (p .first) i (sym at ∙ p .apart .one .at)
+
+        pub first-apart : Apart L P Q ls es (Some i) b (node i (first-node .entry) (first-node .left) (first-node .right)) (p .second)
+        first-apart = subst (λ z. Apart L P Q ls es (Some i) b z (p .second)) (first-node .is) (subst (λ o. Apart L P Q ls es o b (p .first) (p .second)) at (p .apart))
+
+        pub first-back : {P′ Q′ : Tree (Entry T) → Type 0} {ls₁ : List K} {a′ b′ : Option ℕ} → Parted L P′ Q′ ls es (merge (precedes-by (L .le)) (listed (precedes-by (L .le)) (node i (first-node .entry) (first-node .left) (first-node .right))) (listed (precedes-by (L .le)) (p .second))) (λ k. uses (node i (first-node .entry) (first-node .left) (first-node .right)) k + uses (p .second) k) (size (node i (first-node .entry) (first-node .left) (first-node .right)) + size (p .second)) ls₁ a′ b′ → Parted L P′ Q′ ls₀ es list own count ls₁ a′ b′
+        first-back {P′} {Q′} {ls₁} {a′} {b′} q = part-then p (subst (λ z. Parted L P′ Q′ ls es (merge (precedes-by (L .le)) (listed (precedes-by (L .le)) z) (listed (precedes-by (L .le)) (p .second))) (λ k. uses z k + uses (p .second) k) (size z + size (p .second)) ls₁ a′ b′) (sym (first-node .is)) q)
+
       -- the first tree of one forest goes before the other forest
       module _ {P Q : Tree (Entry T) → Type 0} (P′ Q′ : Tree (Entry T) → Type 0) (ls : List K) (es : List (Entry T)) (b : Option ℕ) (i : ℕ) (e : Entry T) (c u t : Tree (Entry T)) (p : Apart L P Q ls es (Some i) b (node i e c u) t) (shape-u : P′ u) (shape-t : Q′ (node i e c t)) where
         abbrev last : List K
@@ -138,12 +167,15 @@ module _ {T K : Type 0} (L : Layout T K) where
         same : (k : ℕ) → (k ≡ i → ⊥) → getD last k (L .none) ≡ getD ls k (L .none)
         same k z = getD-set-other ls i k (L .with-next (getD ls i (L .none)) b) (L .none) z
 
-        moved-first : Parted L P′ Q′ ls es (merge (precedes-by (L .le)) (listed (precedes-by (L .le)) (node i e c u)) (listed (precedes-by (L .le)) t)) (λ k. uses (node i e c u) k + uses t k) (size (node i e c u) + size t) last (L .next (getD ls i (L .none))) (Some i)
+        pub moved-siblings : Stored-at (shaped L P′) last es (L .next (getD ls i (L .none))) u
+        moved-siblings = kept long (λ k z. same k (λ y. grind (arith, tells, p .cells k, z, y))) (siblings-at shape-u (p .one))
+
+        pub moved-first : Parted L P′ Q′ ls es (merge (precedes-by (L .le)) (listed (precedes-by (L .le)) (node i e c u)) (listed (precedes-by (L .le)) t)) (λ k. uses (node i e c u) k + uses t k) (size (node i e c u) + size t) last (L .next (getD ls i (L .none))) (Some i)
         moved-first = record {
           first = u;
           second = node i e c t;
           apart = record {
-            one = kept long (λ k z. same k (λ y. grind (arith, tells, p .cells k, z, y))) (siblings-at shape-u (p .one));
+            one = moved-siblings;
             two = record {
               at = refl;
               stored = record {

@@ -7,3 +7,4 @@ pub mod Taking
 pub mod Melding
 pub mod FreshStore
 pub mod Counting
+pub mod Meldability

@@ -36,6 +36,7 @@ pub record Lawful {T K : Type 0} (F : Form T K) : Type 0 where
   pub valid-one : (i : ℕ) (e : Entry T) → F .Valid (node i e leaf leaf)
   pub list-leaf : F .list leaf ≡ []
   pub list-one : (i : ℕ) (e : Entry T) → F .list (node i e leaf leaf) ≡ e ∷ []
+  pub list-root : (i : ℕ) (e : Entry T) (l r : Tree (Entry T)) → 1 ≤ tally stamp-of (F .list (node i e l r)) (e .stamp)
   pub list-long : (t : Tree (Entry T)) → length (F .list t) ≡ size t
   pub sorted : (t : Tree (Entry T)) → ((k : ℕ) → tally stamp-of (F .list t) k ≤ 1) → F .Valid t → Sorted (precedes-by (F .le)) (F .list t)
 

@@ -17,8 +17,8 @@ pub record Consistent {T K : Type 0} (L : Layout T K) : Type 0 where
   pub with-next-is : (c s s′ : Tree (Entry T)) → L .with-next (L .link c s) (root s′) ≡ L .link c s′
   pub with-child-is : (j : ℕ) (f : Entry T) (d c s : Tree (Entry T)) → L .with-child (L .link c s) (Some j) ≡ L .link (node j f d c) s
 
-pub lawful : {T K : Type 0} (L : Layout T K) (Shape : Tree (Entry T) → Type 0) → Strict (precedes-by (L .le)) (stamp-of {T = T}) → Consistent L → Shape leaf → ((i : ℕ) (e : Entry T) → Shape (node i e leaf leaf)) → Lawful (shaped L Shape)
-lawful L Shape law laid shape-leaf shape-one = record {
+pub shaped-lawful : {T K : Type 0} (L : Layout T K) (Shape : Tree (Entry T) → Type 0) → Strict (precedes-by (L .le)) (stamp-of {T = T}) → Consistent L → Shape leaf → ((i : ℕ) (e : Entry T) → Shape (node i e leaf leaf)) → Lawful (shaped L Shape)
+shaped-lawful L Shape law laid shape-leaf shape-one = record {
   left-is = laid .child-is;
   right-is = laid .next-is;
   next-is = laid .idle-is;

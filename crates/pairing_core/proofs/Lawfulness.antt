@@ -3,7 +3,7 @@ use mathlib.Core.Path.{refl}
 use mathlib.Core.Bool.{Bool}
 use Rattle.elements.specs.Order.{Strict, precedes-by, stamp-of}
 use Rattle.cells.proofs.Soundness.{Lawful}
-use Rattle.forests.proofs.Layouts.{Consistent, lawful}
+use Rattle.forests.proofs.Layouts.{Consistent, shaped-lawful}
 use Rattle.pairing_core.specs.Pairing.{Alone, cells-of, pairing}
 
 pub laid : {T : Type 0} (le : T → T → Bool) → Consistent (cells-of le)
@@ -15,5 +15,5 @@ laid le = record {
   with-child-is = λ j f d c s. refl;
 }
 
-pub fair : {T : Type 0} (le : T → T → Bool) → Strict (precedes-by le) (stamp-of {T = T}) → Lawful (pairing le)
-fair le law = lawful (cells-of le) Alone law (laid le) tt (λ i e. refl)
+pub lawful : {T : Type 0} (le : T → T → Bool) → Strict (precedes-by le) (stamp-of {T = T}) → Lawful (pairing le)
+lawful le law = shaped-lawful (cells-of le) Alone law (laid le) tt (λ i e. refl)

@@ -8,3 +8,4 @@ pub mod Melding
 pub mod FreshStore
 pub mod Counting
 pub mod Meldability
+pub mod Lending

@@ -2,3 +2,4 @@ pub mod Listing
 pub mod Layouts
 pub mod Parting
 pub mod Joining
+pub mod Adding

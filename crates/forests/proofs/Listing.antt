@@ -18,7 +18,7 @@ module _ {A : Type 0} (before : A → A → Bool) where
   list-long leaf = refl
   list-long (node i e c s) = omega (arith, length-merge before (e ∷ listed before c) (listed before s), list-long c, list-long s)
 
-  leads : (e : A) (t : Tree A) → Over before e t → Leads before e (listed before t)
+  pub leads : (e : A) (t : Tree A) → Over before e t → Leads before e (listed before t)
   leads e leaf o = tt
   leads e (node i f c s) o = leads-merge before e (f ∷ listed before c) (listed before s) (o .0) (leads e s (o .1))
 

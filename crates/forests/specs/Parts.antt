@@ -67,3 +67,7 @@ module _ {T K : Type 0} (L : Layout T K) where
   -- what a join of the trees s and t before the siblings v leaves: one forest at r whose list is the sorted joining
   abbrev pub Joined : (Tree (Entry T) → Type 0) → List K → List (Entry T) → Tree (Entry T) → Tree (Entry T) → Tree (Entry T) → List K → Option ℕ → Type 0
   Joined Shape ls es s t v ls′ r = Built (shaped L Shape) ls es (merge (precedes-by (L .le)) (merge (precedes-by (L .le)) (listed (precedes-by (L .le)) s) (listed (precedes-by (L .le)) t)) (listed (precedes-by (L .le)) v)) (λ k. uses s k + uses t k + uses v k) (size s + size t + size v) ls′ r
+
+  -- what an addition of the forests s and t leaves: one forest at r whose list is the sorted joining of theirs
+  abbrev pub Added : (Tree (Entry T) → Type 0) → List K → List (Entry T) → Tree (Entry T) → Tree (Entry T) → List K → Option ℕ → Type 0
+  Added Shape ls es s t ls′ r = Built (shaped L Shape) ls es (merge (precedes-by (L .le)) (listed (precedes-by (L .le)) s) (listed (precedes-by (L .le)) t)) (λ k. uses s k + uses t k) (size s + size t) ls′ r

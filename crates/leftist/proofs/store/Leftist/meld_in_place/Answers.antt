@@ -21,4 +21,5 @@ returns g c =
       effect = effect-back le h p q (λ m. Melds le m (c .args .into) (c .args .from) r (meaning-of (leftist le) (c .meld-queues-answer .last .heads) (c .meld-queues-answer .last .links) (c .take-entries .result .now))) (e .effect);
       entries = ap (λ y. y .now) q;
       refused = unchanged-back le h p q r _ _ (c .take-entries .result .now) (e .heads) (e .links) (still r (c .take-entries .result .now));
+      lent = (ap (λ x. x .name) p, ap (λ y. y .name) q);
     }

@@ -1,7 +1,7 @@
 -- A fresh store, for any form of heap: 32 empty queues, every cell idle.
 use mathlib.Core.Path.{_≡_, refl, ap, _∙_}
 use mathlib.Core.List.{List, [], _∷_, map}
-use Prim.Native.Nat.{ℕ, zero, suc, _+_, _≤_}
+use Prim.Native.Nat.{ℕ, zero, suc}
 use native.Mathlib.Omega.{arith}
 use lib.ListN.{length, replicate}
 use Rattle.std.proofs.shelf.Sums.{sumBy-cons}
@@ -14,7 +14,7 @@ use Rattle.stores.specs.Meaning.{Sizes, fresh-bare, bare-fixed}
 use Rattle.cells.specs.Trees.{Tree, leaf, size, uses}
 use Rattle.cells.specs.IdleCells.{Idle-from}
 use Rattle.cells.specs.Forms.{Form, Stored}
-use Rattle.cells.specs.Queues.{Sound, lists, meaning-of, fresh-heads}
+use Rattle.cells.specs.Queues.{Sound, lists, fresh-heads}
 use Rattle.cells.specs.declared.heads.Heads.{Heads}
 use Rattle.cells.proofs.Soundness.{Lawful, leaf-stored, lists-are}
 use Rattle.cells.proofs.Changing.{Done, done-by}

@@ -2,16 +2,16 @@
 use mathlib.Core.Path.{_≡_, refl, sym, ap, subst, _∙_}
 use mathlib.Core.Bool.{true, false}
 use mathlib.Core.List.{List}
-use Prim.Native.Nat.{ℕ, _+_, _<_, _≤_}
+use Prim.Native.Nat.{ℕ}
 use native.Mathlib.Omega.{arith}
-use lib.ListN.{length, getD}
+use lib.ListN.{getD}
 use Rattle.std.specs.declared.option.Option.{Option}
 use Rattle.std.specs.declared.option.Option.the-variants.{Some, None}
 use Rattle.elements.specs.declared.entries.Entry.{Entry}
 use Rattle.elements.specs.Order.{Strict, precedes-by, stamp-of}
 use Rattle.stores.specs.SortedLists.{merge, tally}
 use Rattle.stores.proofs.Merging.{merge-comm}
-use Rattle.cells.specs.Trees.{Tree, leaf, node, root}
+use Rattle.cells.specs.Trees.{Tree, leaf, node}
 use Rattle.cells.specs.Forms.{Form, Stored-at, Meldable, Melded}
 use Rattle.cells.proofs.Trees.{node-at, leaf-at, read-same}
 use Rattle.cells.proofs.Soundness.{Lawful}

@@ -16,7 +16,6 @@ use Rattle.elements.specs.declared.entries.Entry.{Entry}
 use Rattle.elements.specs.Order.{precedes-by, stamp-of}
 use Rattle.stores.specs.SortedLists.{tally, Sorted}
 use Rattle.stores.specs.Meaning.{Well-formed, live}
-use Rattle.stores.specs.Promises.{Bare}
 use Rattle.stores.proofs.Answering.{no-heights}
 use Rattle.cells.specs.Trees.{Tree, leaf, node, root, size, uses, tree-at}
 use Rattle.cells.specs.IdleCells.{times}
@@ -61,10 +60,6 @@ module _ {T K : Type 0} (F : Form T K) where
     },
     all-framed ls ls′ es es′ ts long wide (λ k u. same k (omega (arith, sumBy-cons (λ x. uses x k) t ts))) (λ k d u. alike k d (omega (arith, sumBy-cons (λ x. uses x k) t ts))) (h .1),
   )
-
-  -- a store of heaps has no limits and holds nothing back
-  pub bare : (h : Heads) (ls : List K) (es : List (Entry T)) → Bare (meaning-of F h ls es)
-  bare h ls es = record { fixed = refl; held = refl }
 
   module _ (lawful : Lawful F) where
     pub leaf-stored : {ls : List K} {es : List (Entry T)} → Stored F ls es leaf

@@ -34,6 +34,7 @@ pub fn make<'a, T: Ordered + Copy>(
     ensures formed { λ r. ⌜ Well-formed (T·Ordered .le) (meaning-lent (T·Ordered .le) r) ⌝ }
     ensures bare { λ r. ⌜ Bare (meaning-lent (T·Ordered .le) r) ⌝ }
     ensures entries { λ r. ⌜ now (r .entries) ≡ now (entries .entry) ⌝ }
+    ensures lent { λ r. ⌜ (name (r .links) ≡ name (links .entry)) × (name (r .entries) ≡ name (entries .entry)) ⌝ }
 {
     let free = leftist_core::make_idle(links);
     let heads = Heads::fresh(free, stamps);
@@ -52,6 +53,7 @@ impl<'a, T: Ordered + Copy> Leftist<'a, T> {
         ensures effect { λ r. ⌜ Puts (T·Ordered .le) (meaning-lent (T·Ordered .le) (now (self .entry))) queue element r (meaning-lent (T·Ordered .le) (now (self .exit))) ⌝ }
         ensures entries { λ r. ⌜ now (now (self .exit) .entries) ≡ placed r (now (self .entry) .heads .free) (now (now (self .entry) .entries)) element ⌝ }
         ensures refused { λ r. ⌜ Unchanged r (now (self .entry)) (now (self .exit)) ⌝ }
+        ensures lent { λ _. ⌜ (name (now (self .exit) .links) ≡ name (now (self .entry) .links)) × (name (now (self .exit) .entries) ≡ name (now (self .entry) .entries)) ⌝ }
     {
         let links = mem::take(&mut self.links);
         let entries = mem::take(&mut self.entries);
@@ -67,6 +69,7 @@ impl<'a, T: Ordered + Copy> Leftist<'a, T> {
         ensures effect { λ r. ⌜ Takes (T·Ordered .le) (meaning-lent (T·Ordered .le) (now (self .entry))) queue r (meaning-lent (T·Ordered .le) (now (self .exit))) ⌝ }
         ensures entries { λ _. ⌜ now (now (self .exit) .entries) ≡ now (now (self .entry) .entries) ⌝ }
         ensures refused { λ r. ⌜ Unchanged r (now (self .entry)) (now (self .exit)) ⌝ }
+        ensures lent { λ _. ⌜ (name (now (self .exit) .links) ≡ name (now (self .entry) .links)) × (name (now (self .exit) .entries) ≡ name (now (self .entry) .entries)) ⌝ }
     {
         let links = mem::take(&mut self.links);
         let entries = mem::take(&mut self.entries);
@@ -82,6 +85,7 @@ impl<'a, T: Ordered + Copy> Leftist<'a, T> {
         ensures effect { λ r. ⌜ Melds (T·Ordered .le) (meaning-lent (T·Ordered .le) (now (self .entry))) into from r (meaning-lent (T·Ordered .le) (now (self .exit))) ⌝ }
         ensures entries { λ _. ⌜ now (now (self .exit) .entries) ≡ now (now (self .entry) .entries) ⌝ }
         ensures refused { λ r. ⌜ Unchanged r (now (self .entry)) (now (self .exit)) ⌝ }
+        ensures lent { λ _. ⌜ (name (now (self .exit) .links) ≡ name (now (self .entry) .links)) × (name (now (self .exit) .entries) ≡ name (now (self .entry) .entries)) ⌝ }
     {
         let links = mem::take(&mut self.links);
         let entries = mem::take(&mut self.entries);

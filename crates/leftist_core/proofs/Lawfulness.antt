@@ -1,8 +1,7 @@
 -- Ranks and lists of leftist heaps, and that they are a lawful form of heap.
 use mathlib.Core.Path.{_≡_, refl, ap, _∙_}
 use mathlib.Core.Bool.{Bool}
-use mathlib.Core.List.{List, _∷_}
-use Prim.Native.Nat.{ℕ, _+_, _*_, _^_, _≤_}
+use Prim.Native.Nat.{ℕ, _+_, _^_, _≤_}
 use native.Mathlib.Omega.{arith}
 use native.Mathlib.Nat.{pow-suc}
 use native.Mathlib.Numerals.{add-one}
@@ -15,7 +14,7 @@ use Rattle.stores.proofs.Merging.{tally-merge, leads-merge, sorted-merge}
 use Rattle.stores.proofs.Inserting.{length-merge}
 use Rattle.cells.specs.Trees.{Tree, leaf, node, size}
 use Rattle.cells.proofs.Soundness.{Lawful}
-use Rattle.leftist_core.specs.Leftist.{rank, Ranked, Over, Heap-ordered, listed, leftist, Ranks-are-low}
+use Rattle.leftist_core.specs.Leftist.{rank, Over, Heap-ordered, listed, leftist, Ranks-are-low}
 
 pub ranks-are-low : {A : Type 0} → Ranks-are-low A
 ranks-are-low leaf h = omega arith

@@ -18,7 +18,7 @@ use Rattle.stores.specs.SortedLists.{merge, tally, Leads}
 use Rattle.stores.proofs.Merging.{merge-first, merge-assoc, merge-comm, tally-merge, leads-merge}
 use Rattle.cells.specs.Trees.{Tree, leaf, node, root, size, uses, Linked}
 use Rattle.cells.specs.Forms.{Stored, Stored-at, Meldable, Melded}
-use Rattle.cells.proofs.Trees.{Node, node-at, read-same, framed, set-framed, root-within}
+use Rattle.cells.proofs.Trees.{node-at, read-same, framed, set-framed, root-within}
 use Rattle.cells.proofs.Meldability.{swapped, named, root-entry, unswapped, none-left, none-right, second-first}
 use Rattle.leftist_core.specs.Leftist.{rank, Over, listed, link-of, no-link, rank-at, joined, leftist}
 use Rattle.leftist_core.specs.declared.links.Link.{Link}

@@ -21,4 +21,5 @@ returns g c =
       effect = effect-back le h p q (λ m. Puts le m (c .args .queue) (c .args .element) r (meaning-of (leftist le) (c .put-answer .last .heads) (c .put-answer .last .links) (c .put-answer .last .entries))) (e .effect);
       entries = e .entries ∙ ap (λ y. placed r (h .free) (y .now) (c .args .element)) q;
       refused = unchanged-back le h p q r _ _ _ (e .heads) (e .links) (none-placed r (h .free) _ _ (c .args .element) (e .entries));
+      lent = (ap (λ x. x .name) p, ap (λ y. y .name) q);
     }

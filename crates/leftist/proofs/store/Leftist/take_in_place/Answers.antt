@@ -1,24 +1,5 @@
-use mathlib.Core.Path.{ap}
-use Rattle.stores.specs.Promises.{Takes}
-use Rattle.cells.specs.Queues.{meaning-of}
-use Rattle.leftist_core.specs.Leftist.{leftist}
-use Rattle.leftist.proofs.Lending.{still, sound-out, effect-back, unchanged-back}
+use Rattle.leftist.proofs.Lending.{sound-out}
 use Rattle.leftist.proofs.store.Leftist.take_in_place.Needs as need
 
 pub take-answer-requires : need.take-answer-requires
 take-answer-requires g c κs = sound-out (g .T·Ordered .le) (c .args .self .now .heads) (c .take-links .ensures .value) (c .take-entries .ensures .value) (c .pre)
-
-pub returns : need.returns
-returns g c =
-    let le = g .T·Ordered .le in
-    let h = c .args .self .now .heads in
-    let r = c .take-answer .result in
-    let p = c .take-links .ensures .value in
-    let q = c .take-entries .ensures .value in
-    let e = c .take-answer .ensures in
-    record {
-      sound = e .sound;
-      effect = effect-back le h p q (λ m. Takes le m (c .args .queue) r (meaning-of (leftist le) (c .take-answer .last .heads) (c .take-answer .last .links) (c .take-entries .result .now))) (e .effect);
-      entries = ap (λ y. y .now) q;
-      refused = unchanged-back le h p q r _ _ (c .take-entries .result .now) (e .heads) (e .links) (still r (c .take-entries .result .now));
-    }

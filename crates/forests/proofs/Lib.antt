@@ -1,0 +1,5 @@
+pub mod Listing
+pub mod Layouts
+pub mod Parting
+pub mod Joining
+pub mod Adding

@@ -1,0 +1,4 @@
+pub mod Lawfulness
+pub mod Melding
+pub mod Turns
+pub mod Taking

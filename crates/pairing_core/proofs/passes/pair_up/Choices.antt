@@ -1,0 +1,14 @@
+use Rattle.elements.specs.declared.entries.Entry.{Entry}
+use Rattle.elements.specs.Order.{precedes-by}
+use Rattle.cells.specs.Trees.{Tree, size, uses}
+use Rattle.forests.specs.Forests.{Any, listed}
+use Rattle.forests.specs.Parts.{Forest-at, Parted}
+use Rattle.forests.proofs.Parting.{extent}
+use Rattle.pairing_core.specs.Pairing.{cells-of}
+use Rattle.pairing_core.proofs.passes.pair_up.Given as given
+
+abbrev pub Inv-pairs : given.InvT-pairs
+Inv-pairs g l = (t : Tree (Entry (g .T .Denot))) → Forest-at (cells-of (g .T·Ordered .le)) Any (l .entry .links) (l .entries) (l .entry .rest) t → Parted (cells-of (g .T·Ordered .le)) Any Any (l .entry .links) (l .entries) (listed (precedes-by (g .T·Ordered .le)) t) (uses t) (size t) (l .links) (l .rest) (l .paired)
+
+abbrev pub μ-pairs : given.MeasureT-pairs
+μ-pairs g l = extent (cells-of (g .T·Ordered .le)) (l .links) (l .entries) (l .rest)

@@ -135,8 +135,8 @@ module _ {T : Type 0} {le : T → T → Bool} {B : Type 0} (marks counts : List 
           let five = one-less in
           omega arith
 
-    -- the queue was purged: the heap below means n
-    module _ {C : Type 0} (n : Meaning T) (c : C) (marks′ counts′ : List ℕ) (h′ : ℕ) (e : Purges le marks′ m q n) (em : marks′ ≡ new) (ec : counts′ ≡ less) (eh : h′ ≡ h) where
+    -- the queue was purged by the marks v: the heap below means n
+    module _ {C : Type 0} (n : Meaning T) (c : C) (marks′ counts′ : List ℕ) (h′ : ℕ) (v : List ℕ) (e : Purges le v m q n) (ev : v ≡ new) (em : marks′ ≡ new) (ec : counts′ ≡ less) (eh : h′ ≡ h) where
       abbrev ys : List (Entry T)
       ys = purged new (list-of (m .state) q)
 
@@ -144,7 +144,7 @@ module _ {T : Type 0} {le : T → T → Bool} {B : Type 0} (marks counts : List 
       same = kept-purged new (list-of (m .state) q)
 
       after : n .state ≡ with-list (m .state) q ys
-      after = e .after ∙ ap (λ v. with-list (m .state) q (purged v (list-of (m .state) q))) em
+      after = e .after ∙ ap (λ w. with-list (m .state) q (purged w (list-of (m .state) q))) ev
 
       exact : Over le C new less h n
       exact = over-next marks counts h m o new less n c (e .formed) (e .bare) (e .fixed) (subst (λ (z : State T). Marked new less (z .lists)) (sym after) (cut-marked ys same (front-purged new (list-of (m .state) q))))

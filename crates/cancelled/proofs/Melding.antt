@@ -115,9 +115,9 @@ module _ {T : Type 0} {le : T → T → Bool} {B : Type 0} (marks counts : List 
       pub meld-over : Over le C marks′ counts′ h′ k
       meld-over = rw (em, ec, eh) exact
 
-      pub melds-lazily : Melds le (lazily marks m) a b (Ok (getD counts b 0)) (lazily marks′ k)
-      melds-lazily = rw em (record {
-        answer = let near = meld-apart in meld-told (lazily marks m .state) a b (getD counts b 0) (near .0) (near .1) (near .2) (counts-at marks counts h m o b);
+      pub melds-lazily : (r : ℕ) → r ≡ getD counts b 0 → Melds le (lazily marks m) a b (Ok r) (lazily marks′ k)
+      melds-lazily r er = rw em (record {
+        answer = let near = meld-apart in meld-told (lazily marks m .state) a b r (near .0) (near .1) (near .2) (er ∙ counts-at marks counts h m o b);
         after = ap (lazily-state new) (e .after) ∙ ap (λ l. record { lists = l; next = m .state .next }) meld-lists;
         fixed = ap lazily-fixed (e .fixed);
         held = omega (arith, ap (λ (z : State T). sumBy (cancelled new) (z .lists)) (e .after), meld-held);

@@ -8,6 +8,7 @@ use native.Mathlib.Omega.{arith}
 use lib.Dec.{leb, ltb, eqb}
 use lib.ListN.{length, getD, set}
 use Rattle.std.specs.shelf.Lists.{sumBy}
+use Rattle.std.specs.declared.option.Option.{Option}
 use Rattle.std.specs.declared.option.Option.the-variants.{Some}
 use Rattle.std.specs.declared.result.Result.the-variants.{Ok}
 use Rattle.std.proofs.shelf.Lists.{set-set, getD-set-same}
@@ -76,10 +77,10 @@ module _ {T : Type 0} {le : T → T → Bool} {B : Type 0} (marks counts : List 
       (set-set (m .state .lists) q others _
       ∙ ap (λ l. set (m .state .lists) q (purged new l)) (getD-set-same (m .state .lists) q others [] (omega (arith, o .formed .queues, take-near))))
 
-  -- the heap below means k after the taking, and n after the purging
-  module _ {C : Type 0} (k n : Meaning T) (c : C) (marks′ counts′ : List ℕ) (h′ : ℕ) (t : Takes le m q (Ok (Some e)) k) (p : Purges le marks′ k q n) (em : marks′ ≡ new) (ec : counts′ ≡ less) (eh : h′ ≡ h) where
+  -- the heap below means k after the taking, and n after the purging by the marks v
+  module _ {C : Type 0} (k n : Meaning T) (c : C) (marks′ counts′ : List ℕ) (h′ : ℕ) (f : Option (Entry T)) (is : f ≡ Some e) (t : Takes le m q (Ok f) k) (v : List ℕ) (p : Purges le v k q n) (ev : v ≡ new) (em : marks′ ≡ new) (ec : counts′ ≡ less) (eh : h′ ≡ h) where
     after : n .state ≡ with-list (m .state) q ys
-    after = p .after ∙ ap (λ v. purge-after v (k .state) q) em ∙ ap (λ z. purge-after new z q) (t .after) ∙ take-purged
+    after = p .after ∙ ap (λ w. purge-after w (k .state) q) ev ∙ ap (λ z. purge-after new z q) (t .after ∙ ap (λ g. take-after (m .state) q (Ok g)) is) ∙ take-purged
 
     exact : Over le C new less h n
     exact = over-next marks counts h m o new less n c (p .formed) (p .bare) (p .fixed ∙ t .fixed) (subst (λ (z : State T). Marked new less (z .lists)) (sym after) (cut-marked marks counts h m o q (e .stamp) take-near take-here ys same (front-purged new others)))

@@ -15,7 +15,7 @@ use Rattle.stores.specs.Promises.{Puts, Takes, Melds, Cancels}
 use Rattle.journal.specs.declared.logs.Log.{Log}
 use Rattle.journal.specs.Kept.{Well-kept, noted}
 use Rattle.journal.specs.declared.logs.Change.{Change}
-use Rattle.journal.specs.Raised.{raised, raised-fixed, Above}
+use Rattle.journal.specs.Raised.{raised, raised-fixed, Over}
 
 higher : (h : ℕ) (ps : List Pair) → At-most h ps → At-most (h + 1) ps
 higher h [] a = tt
@@ -30,7 +30,7 @@ height-noted : (cs : List Change) (l : Log) → noted l cs .height ≡ l .height
 height-noted [] l = refl
 height-noted (c ∷ cs) l = height-noted cs (noted l (c ∷ []))
 
-module _ {T : Type 0} {le : T → T → Bool} {B : Type 0} (m : Meaning T) (l : Log) (o : Above le B m l) where
+module _ {T : Type 0} {le : T → T → Bool} {B : Type 0} (m : Meaning T) (l : Log) (o : Over le B m l) where
   pub formed-raised : Well-formed le (raised m)
   formed-raised =
       let f = o .formed in
@@ -48,13 +48,13 @@ module _ {T : Type 0} {le : T → T → Bool} {B : Type 0} (m : Meaning T) (l : 
       }
 
   -- the layer after a call that made the changes cs
-  pub above-next : {C : Type 0} (n : Meaning T) (w : Log) (cs : List Change) → C → Well-formed le n → n .fixed ≡ m .fixed → Well-kept w → w ≡ noted l cs → Above le C n w
-  above-next n w cs c f e k is =
+  pub over-next : {C : Type 0} (n : Meaning T) (w : Log) (cs : List Change) → C → Well-formed le n → n .fixed ≡ m .fixed → Well-kept w → w ≡ noted l cs → Over le C n w
+  over-next n w cs c f e k is =
       let h : w .height ≡ l .height = ap (λ (x : Log). x .height) is ∙ height-noted cs l in
       record { below = c; formed = f; kept = k; above = h ∙ o .above ∙ ap (λ (x : Fixed). x .height + 1) (sym e); low = rw h (o .low) }
 
 -- what the call below promises, the layer promises; n is what the store below means after it
-module _ {T : Type 0} {le : T → T → Bool} {C : Type 0} (m n : Meaning T) (w : Log) (o : Above le C n w) where
+module _ {T : Type 0} {le : T → T → Bool} {C : Type 0} (m n : Meaning T) (w : Log) (o : Over le C n w) where
   pub puts-raised : (q : ℕ) (x : T) (r : Result ℕ Refusal) → Puts le m q x r n → Puts le (raised m) q x r (raised n)
   puts-raised q x r e = record { answer = e .answer; after = e .after; fixed = ap raised-fixed (e .fixed); held = e .held; formed = formed-raised n w o }
 

@@ -10,6 +10,7 @@ use Rattle.std.specs.declared.result.Result.the-variants.{Ok, Err}
 use Rattle.elements.specs.declared.entries.Entry.{Entry}
 use Rattle.stores.specs.declared.refusals.Refusal.{Refusal}
 use Rattle.stores.specs.Meaning.{Fixed, Meaning, Well-formed}
+use Rattle.journal.specs.declared.journals.Journal.{Journal}
 use Rattle.journal.specs.declared.logs.Log.{Log}
 use Rattle.journal.specs.declared.logs.Change.{Change}
 use Rattle.journal.specs.declared.logs.Change.the-variants.{Put, Take, Meld, Cancel}
@@ -28,12 +29,19 @@ pub record Fit {T : Type 0} (m : Meaning T) (J : ℕ) : Type 0 where
   pub most : J ≤ 1024
 
 -- the layer with the log l, over a store that means m and is sound where Below holds
-pub record Above {T : Type 0} (le : T → T → Bool) (Below : Type 0) (m : Meaning T) (l : Log) : Type 0 where
+pub record Over {T : Type 0} (le : T → T → Bool) (Below : Type 0) (m : Meaning T) (l : Log) : Type 0 where
   pub below : Below
   pub formed : Well-formed le m
   pub kept : Well-kept l
   pub above : l .height ≡ m .fixed .height + 1
   pub low : l .height ≤ 255
+
+-- what the layer means and when it is sound, by the meaning and the soundness of the store below
+abbrev pub journal-meaning : {T B : Type 0} → (B → Meaning T) → Journal B → Meaning T
+journal-meaning means s = raised (means (s .below))
+
+abbrev pub journal-sound : {T B : Type 0} → (T → T → Bool) → (B → Type 0) → (B → Meaning T) → Journal B → Type 0
+journal-sound le sound means s = Over le (sound (s .below)) (means (s .below)) (s .own)
 
 -- the change that each call makes, by its answer: none where it is refused, nor where a take finds nothing
 abbrev pub put-change : ℕ → Result ℕ Refusal → List Change

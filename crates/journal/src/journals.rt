@@ -7,7 +7,7 @@ ghost use Rattle.stores.specs.Promises.{Puts, Takes, Melds, Cancels, Unchanged}
 ghost use Rattle.stores.specs.Refusals.{Tests};
 ghost use Rattle.stores.specs.declared.refusals.Unfit.the-variants.{OutOfRange};
 ghost use Rattle.journal.specs.Kept.{History, Writes, recent};
-ghost use Rattle.journal.specs.Raised.{raised, Fit, Above, put-change, take-change, meld-change, cancel-change};
+ghost use Rattle.journal.specs.Raised.{raised, journal-meaning, journal-sound, Fit, put-change, take-change, meld-change, cancel-change};
 use crate::logs::Change;
 use crate::logs::Log;
 use elements::Entry;
@@ -39,9 +39,9 @@ impl<B: Agenda> Journal<B> {
         requires sound { ⌜ B·Agenda .sound below ⌝ }
         requires formed { ⌜ Well-formed (Item·Ordered .le) (B·Agenda .meaning below) ⌝ }
         requires fit { ⌜ Fit (B·Agenda .meaning below) used ⌝ }
-        ensures sound { λ r. ⌜ Above (Item·Ordered .le) (B·Agenda .sound (r .below)) (B·Agenda .meaning (r .below)) (r .own) ⌝ }
-        ensures formed { λ r. ⌜ Well-formed (Item·Ordered .le) (raised (B·Agenda .meaning (r .below))) ⌝ }
-        ensures meaning { λ r. ⌜ raised (B·Agenda .meaning (r .below)) ≡ raised (B·Agenda .meaning below) ⌝ }
+        ensures sound { λ r. ⌜ journal-sound (Item·Ordered .le) (B·Agenda .sound) (B·Agenda .meaning) r ⌝ }
+        ensures formed { λ r. ⌜ Well-formed (Item·Ordered .le) (journal-meaning (B·Agenda .meaning) r) ⌝ }
+        ensures meaning { λ r. ⌜ journal-meaning (B·Agenda .meaning) r ≡ raised (B·Agenda .meaning below) ⌝ }
         ensures used { λ r. ⌜ r .own .used ≡ used ⌝ }
         ensures history { λ r. ⌜ History (r .own) [] ⌝ }
     {
@@ -51,7 +51,7 @@ impl<B: Agenda> Journal<B> {
 
     // The i-th oldest of the changes kept, counted from 0, or none.
     pub fn oldest(&self, i: u16) -> Option<Change>
-        requires { ⌜ Above (Item·Ordered .le) (B·Agenda .sound (now self .below)) (B·Agenda .meaning (now self .below)) (now self .own) ⌝ }
+        requires { ⌜ journal-sound (Item·Ordered .le) (B·Agenda .sound) (B·Agenda .meaning) (now self) ⌝ }
         ensures { λ r. ⌜ r ≡ nth (recent (now (self .entry) .own)) i ⌝ }
     {
         self.own.oldest(i)
@@ -62,14 +62,14 @@ impl<B: Agenda> Journal<B> {
 pub impl<B: Agenda> Agenda for Journal<B> as JournalAgenda {
     type Item = B::Item;
 
-    ghost meaning = { λ s. raised (B·Agenda .meaning (s .below)) };
+    ghost meaning = { journal-meaning (B·Agenda .meaning) };
 
-    ghost sound = { λ s. Above (Item·Ordered .le) (B·Agenda .sound (s .below)) (B·Agenda .meaning (s .below)) (s .own) };
+    ghost sound = { journal-sound (Item·Ordered .le) (B·Agenda .sound) (B·Agenda .meaning) };
 
     fn put(&mut self, queue: u8, element: B::Item) -> Result<u16, Refusal>
-        requires { ⌜ Above (Item·Ordered .le) (B·Agenda .sound (now self .below)) (B·Agenda .meaning (now self .below)) (now self .own) ⌝ }
-        ensures sound { λ _. ⌜ Above (Item·Ordered .le) (B·Agenda .sound (now (self .exit) .below)) (B·Agenda .meaning (now (self .exit) .below)) (now (self .exit) .own) ⌝ }
-        ensures effect { λ r. ⌜ Puts (Item·Ordered .le) (raised (B·Agenda .meaning (now (self .entry) .below))) queue element r (raised (B·Agenda .meaning (now (self .exit) .below))) ⌝ }
+        requires { ⌜ journal-sound (Item·Ordered .le) (B·Agenda .sound) (B·Agenda .meaning) (now self) ⌝ }
+        ensures sound { λ _. ⌜ journal-sound (Item·Ordered .le) (B·Agenda .sound) (B·Agenda .meaning) (now (self .exit)) ⌝ }
+        ensures effect { λ r. ⌜ Puts (Item·Ordered .le) (journal-meaning (B·Agenda .meaning) (now (self .entry))) queue element r (journal-meaning (B·Agenda .meaning) (now (self .exit))) ⌝ }
         ensures refused { λ r. ⌜ Unchanged r (now (self .entry)) (now (self .exit)) ⌝ }
         ensures writes { λ r. ⌜ Writes (now (self .entry) .own) (put-change queue r) (now (self .exit) .own) ⌝ }
     {
@@ -87,9 +87,9 @@ pub impl<B: Agenda> Agenda for Journal<B> as JournalAgenda {
     }
 
     fn take(&mut self, queue: u8) -> Result<Option<Entry<B::Item>>, Refusal>
-        requires { ⌜ Above (Item·Ordered .le) (B·Agenda .sound (now self .below)) (B·Agenda .meaning (now self .below)) (now self .own) ⌝ }
-        ensures sound { λ _. ⌜ Above (Item·Ordered .le) (B·Agenda .sound (now (self .exit) .below)) (B·Agenda .meaning (now (self .exit) .below)) (now (self .exit) .own) ⌝ }
-        ensures effect { λ r. ⌜ Takes (Item·Ordered .le) (raised (B·Agenda .meaning (now (self .entry) .below))) queue r (raised (B·Agenda .meaning (now (self .exit) .below))) ⌝ }
+        requires { ⌜ journal-sound (Item·Ordered .le) (B·Agenda .sound) (B·Agenda .meaning) (now self) ⌝ }
+        ensures sound { λ _. ⌜ journal-sound (Item·Ordered .le) (B·Agenda .sound) (B·Agenda .meaning) (now (self .exit)) ⌝ }
+        ensures effect { λ r. ⌜ Takes (Item·Ordered .le) (journal-meaning (B·Agenda .meaning) (now (self .entry))) queue r (journal-meaning (B·Agenda .meaning) (now (self .exit))) ⌝ }
         ensures refused { λ r. ⌜ Unchanged r (now (self .entry)) (now (self .exit)) ⌝ }
         ensures writes { λ r. ⌜ Writes (now (self .entry) .own) (take-change queue r) (now (self .exit) .own) ⌝ }
     {
@@ -109,9 +109,9 @@ pub impl<B: Agenda> Agenda for Journal<B> as JournalAgenda {
     }
 
     fn meld(&mut self, into: u8, from: u8) -> Result<u16, Refusal>
-        requires { ⌜ Above (Item·Ordered .le) (B·Agenda .sound (now self .below)) (B·Agenda .meaning (now self .below)) (now self .own) ⌝ }
-        ensures sound { λ _. ⌜ Above (Item·Ordered .le) (B·Agenda .sound (now (self .exit) .below)) (B·Agenda .meaning (now (self .exit) .below)) (now (self .exit) .own) ⌝ }
-        ensures effect { λ r. ⌜ Melds (Item·Ordered .le) (raised (B·Agenda .meaning (now (self .entry) .below))) into from r (raised (B·Agenda .meaning (now (self .exit) .below))) ⌝ }
+        requires { ⌜ journal-sound (Item·Ordered .le) (B·Agenda .sound) (B·Agenda .meaning) (now self) ⌝ }
+        ensures sound { λ _. ⌜ journal-sound (Item·Ordered .le) (B·Agenda .sound) (B·Agenda .meaning) (now (self .exit)) ⌝ }
+        ensures effect { λ r. ⌜ Melds (Item·Ordered .le) (journal-meaning (B·Agenda .meaning) (now (self .entry))) into from r (journal-meaning (B·Agenda .meaning) (now (self .exit))) ⌝ }
         ensures refused { λ r. ⌜ Unchanged r (now (self .entry)) (now (self .exit)) ⌝ }
         ensures writes { λ r. ⌜ Writes (now (self .entry) .own) (meld-change into from r) (now (self .exit) .own) ⌝ }
     {
@@ -141,9 +141,9 @@ pub impl<B: Agenda> Agenda for Journal<B> as JournalAgenda {
     }
 
     fn cancel(&mut self, stamp: u16) -> Result<u8, Refusal>
-        requires { ⌜ Above (Item·Ordered .le) (B·Agenda .sound (now self .below)) (B·Agenda .meaning (now self .below)) (now self .own) ⌝ }
-        ensures sound { λ _. ⌜ Above (Item·Ordered .le) (B·Agenda .sound (now (self .exit) .below)) (B·Agenda .meaning (now (self .exit) .below)) (now (self .exit) .own) ⌝ }
-        ensures effect { λ r. ⌜ Cancels (Item·Ordered .le) (raised (B·Agenda .meaning (now (self .entry) .below))) stamp r (raised (B·Agenda .meaning (now (self .exit) .below))) ⌝ }
+        requires { ⌜ journal-sound (Item·Ordered .le) (B·Agenda .sound) (B·Agenda .meaning) (now self) ⌝ }
+        ensures sound { λ _. ⌜ journal-sound (Item·Ordered .le) (B·Agenda .sound) (B·Agenda .meaning) (now (self .exit)) ⌝ }
+        ensures effect { λ r. ⌜ Cancels (Item·Ordered .le) (journal-meaning (B·Agenda .meaning) (now (self .entry))) stamp r (journal-meaning (B·Agenda .meaning) (now (self .exit))) ⌝ }
         ensures refused { λ r. ⌜ Unchanged r (now (self .entry)) (now (self .exit)) ⌝ }
         ensures writes { λ r. ⌜ Writes (now (self .entry) .own) (cancel-change stamp r) (now (self .exit) .own) ⌝ }
     {

@@ -4,7 +4,8 @@ ghost use Prim.Native.Nat.{_<_};
 ghost use lib.ListN.{length};
 ghost use Rattle.stores.specs.Meaning.{Well-formed, list-of};
 ghost use Rattle.stores.specs.Promises.{Bare};
-ghost use Rattle.cancelled.specs.Cancelled.{front-cancelled, lazily, fresh-lazily, Over, Fit, Tested, Purges};
+ghost use Rattle.cancelled.specs.Cancelled.{front-cancelled, fresh-lazily, Fit, Tested, Purges};
+ghost use Rattle.lazy.specs.Lazily.{lazy-meaning, lazy-sound};
 use crate::marking::Marks;
 use elements::Entry;
 use stores::Agenda;
@@ -41,9 +42,9 @@ impl<B: BareHeap> Lazy<B> {
         requires formed { ⌜ Well-formed (Item·Ordered .le) (B·BareHeap .meaning below) ⌝ }
         requires bare { ⌜ Bare (B·BareHeap .meaning below) ⌝ }
         requires fit { ⌜ Fit (B·BareHeap .meaning below) ⌝ }
-        ensures sound { λ r. ⌜ Over (Item·Ordered .le) (B·BareHeap .sound (r .below)) (r .own .«queue_of») (r .own .counts) (r .own .height) (B·BareHeap .meaning (r .below)) ⌝ }
-        ensures formed { λ r. ⌜ Well-formed (Item·Ordered .le) (lazily (r .own .«queue_of») (B·BareHeap .meaning (r .below))) ⌝ }
-        ensures meaning { λ r. ⌜ lazily (r .own .«queue_of») (B·BareHeap .meaning (r .below)) ≡ fresh-lazily (B·BareHeap .meaning below .fixed) ⌝ }
+        ensures sound { λ r. ⌜ lazy-sound (Item·Ordered .le) (B·BareHeap .sound) (B·BareHeap .meaning) r ⌝ }
+        ensures formed { λ r. ⌜ Well-formed (Item·Ordered .le) (lazy-meaning (B·BareHeap .meaning) r) ⌝ }
+        ensures meaning { λ r. ⌜ lazy-meaning (B·BareHeap .meaning) r ≡ fresh-lazily (B·BareHeap .meaning below .fixed) ⌝ }
     {
         let own = Marks::over(below.height());
         Lazy { below, own }
@@ -86,9 +87,9 @@ impl<B: BareHeap> Lazy<B> {
 pub impl<B: BareHeap> Agenda for Lazy<B> as LazyAgenda {
     type Item = B::Item;
 
-    ghost meaning = { λ s. lazily (s .own .«queue_of») (B·BareHeap .meaning (s .below)) };
+    ghost meaning = { lazy-meaning (B·BareHeap .meaning) };
 
-    ghost sound = { λ s. Over (Item·Ordered .le) (B·BareHeap .sound (s .below)) (s .own .«queue_of») (s .own .counts) (s .own .height) (B·BareHeap .meaning (s .below)) };
+    ghost sound = { lazy-sound (Item·Ordered .le) (B·BareHeap .sound) (B·BareHeap .meaning) };
 
     fn put(&mut self, queue: u8, element: B::Item) -> Result<u16, Refusal> {
         match self.below.put(queue, element) {

@@ -5,6 +5,7 @@ use mathlib.Core.List.{List, [], _∷_}
 use Prim.Native.Nat.{ℕ, _+_, _≤_, _<_}
 use lib.ListN.{length}
 use Rattle.stores.specs.Meaning.{Pair, Fixed, Meaning, Well-formed}
+use Rattle.quota.specs.declared.Quota.{Quota}
 
 -- each queue's pairs, with its limit at height h in front
 unfoldable pub added : List ℕ → ℕ → List (List Pair) → List (List Pair)
@@ -35,3 +36,10 @@ pub record Over {T : Type 0} (le : T → T → Bool) (Below : Type 0) (m : Meani
   pub own : length ls ≡ 32
   pub above : h ≡ m .fixed .height + 1
   pub low : h ≤ 255
+
+-- what the layer means and when it is sound, by the meaning and the soundness of the store below
+abbrev pub quota-meaning : {T B : Type 0} → (B → Meaning T) → Quota B → Meaning T
+quota-meaning means s = with-limits (s .own .limits) (means (s .below))
+
+abbrev pub quota-sound : {T B : Type 0} → (T → T → Bool) → (B → Type 0) → (B → Meaning T) → Quota B → Type 0
+quota-sound le sound means s = Over le (sound (s .below)) (means (s .below)) (s .own .limits) (s .own .height)

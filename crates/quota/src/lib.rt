@@ -7,7 +7,7 @@ ghost use Rattle.stores.specs.Meaning.{Well-formed};
 ghost use Rattle.stores.specs.Refusals.{Tests};
 ghost use Rattle.stores.specs.declared.refusals.Refusal.the-variants.{AtLimit};
 ghost use Rattle.stores.specs.declared.refusals.Unfit.the-variants.{OutOfRange};
-ghost use Rattle.quota.specs.Limiting.{with-limits, Fit, Over};
+ghost use Rattle.quota.specs.Limiting.{with-limits, quota-meaning, quota-sound, Fit};
 use elements::Entry;
 use stores::Agenda;
 use stores::Refusal;
@@ -74,9 +74,9 @@ impl<B: Agenda> Quota<B> {
         requires sound { ⌜ B·Agenda .sound below ⌝ }
         requires formed { ⌜ Well-formed (Item·Ordered .le) (B·Agenda .meaning below) ⌝ }
         requires fit { ⌜ Fit (B·Agenda .meaning below) ⌝ }
-        ensures sound { λ r. ⌜ Over (Item·Ordered .le) (B·Agenda .sound (r .below)) (B·Agenda .meaning (r .below)) (r .own .limits) (r .own .height) ⌝ }
-        ensures formed { λ r. ⌜ Well-formed (Item·Ordered .le) (with-limits (r .own .limits) (B·Agenda .meaning (r .below))) ⌝ }
-        ensures meaning { λ r. ⌜ with-limits (r .own .limits) (B·Agenda .meaning (r .below)) ≡ with-limits limits (B·Agenda .meaning below) ⌝ }
+        ensures sound { λ r. ⌜ quota-sound (Item·Ordered .le) (B·Agenda .sound) (B·Agenda .meaning) r ⌝ }
+        ensures formed { λ r. ⌜ Well-formed (Item·Ordered .le) (quota-meaning (B·Agenda .meaning) r) ⌝ }
+        ensures meaning { λ r. ⌜ quota-meaning (B·Agenda .meaning) r ≡ with-limits limits (B·Agenda .meaning below) ⌝ }
     {
         let own = Limits::over(below.height(), limits);
         Quota { below, own }
@@ -87,9 +87,9 @@ impl<B: Agenda> Quota<B> {
 pub impl<B: Agenda> Agenda for Quota<B> as QuotaAgenda {
     type Item = B::Item;
 
-    ghost meaning = { λ s. with-limits (s .own .limits) (B·Agenda .meaning (s .below)) };
+    ghost meaning = { quota-meaning (B·Agenda .meaning) };
 
-    ghost sound = { λ s. Over (Item·Ordered .le) (B·Agenda .sound (s .below)) (B·Agenda .meaning (s .below)) (s .own .limits) (s .own .height) };
+    ghost sound = { quota-sound (Item·Ordered .le) (B·Agenda .sound) (B·Agenda .meaning) };
 
     fn put(&mut self, queue: u8, element: B::Item) -> Result<u16, Refusal> {
         match self.below.count(queue) {

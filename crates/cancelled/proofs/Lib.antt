@@ -1,0 +1,12 @@
+pub mod Keeping
+pub mod Joining
+pub mod Places
+pub mod Marking
+pub mod Layer
+pub mod Putting
+pub mod Cutting
+pub mod Taking
+pub mod Melding
+pub mod Refusing
+pub mod Purging
+pub mod Making

@@ -1,0 +1,2 @@
+pub mod Cancelled
+pub mod Examples

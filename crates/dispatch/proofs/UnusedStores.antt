@@ -143,18 +143,18 @@ module _ {T : Type 0} (le : T → T → Bool) where
     next-is : n .state .next ≡ length xs
     next-is = ap (λ s. s .next) state-is ∙ omega arith
 
-    pub enough : Enough (m .fixed) (length xs)
+    pub enough : Enough (m .fixed .cells) (m .fixed .stamps) (length xs)
     enough =
         let f = admitted .formed (unused .formed) in
         record {
-          cells = omega (arith, f .stored, live-is, ap (λ x. x .cells) fixed-is);
-          stamps = omega (arith, f .issued, next-is, ap (λ x. x .stamps) fixed-is);
+          few-cells = omega (arith, f .stored, live-is, ap (λ x. x .cells) fixed-is);
+          few-stamps = omega (arith, f .issued, next-is, ap (λ x. x .stamps) fixed-is);
         }
 
     pub served-in-order : (o : Meaning T) (ys : List T) → Served le n ys o → ys ≡ elements-of (service le xs)
     served-in-order o ys s = s .taken ∙ ap (λ u. elements-of (list-of u 0)) state-is
 
-    pub lacks : (f : Refusal) → Err f ≡ put-answer n 0 → Lacks (m .fixed) (length xs) f
+    pub lacks : (f : Refusal) → Err f ≡ put-answer n 0 → Lacks (m .fixed .cells) (m .fixed .stamps) (length xs) f
     lacks f answer =
         go (refused-by (eqb (live (n .state) + n .held) (n .fixed .cells)) (eqb (n .state .next) (n .fixed .stamps)) f (n .state .next)
         (answer ∙ ap (λ b. cond b (Err (AtLimit (reached-height (limits-of (n .fixed) 0) (count-of (n .state) 0)))) (cond (eqb (live (n .state) + n .held) (n .fixed .cells)) (Err NoCell) (cond (eqb (n .state .next) (n .fixed .stamps)) (Err NoStamp) (Ok (n .state .next))))) free))
@@ -162,18 +162,18 @@ module _ {T : Type 0} (le : T → T → Bool) where
         free : reached (limits-of (n .fixed) 0) (count-of (n .state) 0) ≡ false
         free = ap (λ ps. reached ps (count-of (n .state) 0)) (ap (λ x. limits-of x 0) fixed-is ∙ unused .unlimited)
 
-        go : ((eqb (live (n .state) + n .held) (n .fixed .cells) ≡ true) × (f ≡ NoCell)) ⊎ ((eqb (live (n .state) + n .held) (n .fixed .cells) ≡ false) × (eqb (n .state .next) (n .fixed .stamps) ≡ true) × (f ≡ NoStamp)) → Lacks (m .fixed) (length xs) f
-        go (inl h) = subst (Lacks (m .fixed) (length xs)) (sym (h .1)) (omega (arith, eqb-true _ _ (h .0), live-is, held-is, ap (λ x. x .cells) fixed-is), enough .stamps)
+        go : ((eqb (live (n .state) + n .held) (n .fixed .cells) ≡ true) × (f ≡ NoCell)) ⊎ ((eqb (live (n .state) + n .held) (n .fixed .cells) ≡ false) × (eqb (n .state .next) (n .fixed .stamps) ≡ true) × (f ≡ NoStamp)) → Lacks (m .fixed .cells) (m .fixed .stamps) (length xs) f
+        go (inl h) = subst (Lacks (m .fixed .cells) (m .fixed .stamps) (length xs)) (sym (h .1)) (omega (arith, eqb-true _ _ (h .0), live-is, held-is, ap (λ x. x .cells) fixed-is), enough .few-stamps)
         go (inr h) =
-            subst (Lacks (m .fixed) (length xs)) (sym (h .2)) (
+            subst (Lacks (m .fixed .cells) (m .fixed .stamps) (length xs)) (sym (h .2)) (
               omega (arith, eqb-true _ _ (h .1), next-is, ap (λ x. x .stamps) fixed-is),
-              omega (arith, eqb-false _ _ (h .0), enough .cells, live-is, held-is, ap (λ x. x .cells) fixed-is),
+              omega (arith, eqb-false _ _ (h .0), enough .few-cells, live-is, held-is, ap (λ x. x .cells) fixed-is),
             )
 
   -- the order that is rejected
-  pub hindered : Strict before stamp-of → (m : Meaning T) → Unused le m → (xs : List T) (n : Meaning T) (e : Rejected) → Admits le m xs (Err e) n → (e .index < length xs) × Lacks (m .fixed) (e .index) (e .refusal)
+  pub hindered : Strict before stamp-of → (m : Meaning T) → Unused le m → (xs : List T) (n : Meaning T) (e : Rejected) → Admits le m xs (Err e) n → (e .index < length xs) × Lacks (m .fixed .cells) (m .fixed .stamps) (e .index) (e .refusal)
   hindered law m unused xs n e r =
-      (r .0, subst (λ k. Lacks (m .fixed) k (e .refusal)) (length-take-le (e .index) xs (omega (arith, r .0))) (lacks law m unused (take (e .index) xs) n (r .1) (e .refusal) (r .2)))
+      (r .0, subst (λ k. Lacks (m .fixed .cells) (m .fixed .stamps) k (e .refusal)) (length-take-le (e .index) xs (omega (arith, r .0))) (lacks law m unused (take (e .index) xs) n (r .1) (e .refusal) (r .2)))
 
   -- a store by itself with nothing put yet is unused
   pub unused-bare : (m : Meaning T) (c s : ℕ) → Well-formed le m → m ≡ fresh-bare c s → Unused le m

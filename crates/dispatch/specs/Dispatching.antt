@@ -11,7 +11,7 @@ use Rattle.std.specs.declared.result.Result.{Result}
 use Rattle.std.specs.declared.result.Result.the-variants.{Ok, Err}
 use Rattle.stores.specs.declared.refusals.Refusal.{Refusal}
 use Rattle.stores.specs.declared.refusals.Refusal.the-variants.{QueueNumber, SameQueue, AtLimit, NoCell, NoStamp, NotQueued}
-use Rattle.stores.specs.Meaning.{Fixed, Meaning, Well-formed, list-of, limits-of, fresh}
+use Rattle.stores.specs.Meaning.{Meaning, Well-formed, list-of, limits-of, fresh}
 use Rattle.stores.specs.Calls.{put-answer, put-after, with-list}
 use Rattle.dispatch.specs.declared.Rejected.{Rejected}
 use Rattle.dispatch.specs.declared.Failure.{Failure}
@@ -70,20 +70,20 @@ module _ {T : Type 0} (le : T → T → Bool) where
     pub unlimited : limits-of (m .fixed) 0 ≡ []
 
 -- cells and stamps for n orders
-pub record Enough (f : Fixed) (n : ℕ) : Type 0 where
-  pub cells : n ≤ f .cells
-  pub stamps : n ≤ f .stamps
+pub record Enough (cells stamps n : ℕ) : Type 0 where
+  pub few-cells : n ≤ cells
+  pub few-stamps : n ≤ stamps
 
 -- after k orders there is no cell left, or else no stamp
-abbrev pub Lacks : Fixed → ℕ → Refusal → Type 0
-Lacks f k NoCell = (k ≡ f .cells) × (k ≤ f .stamps)
-Lacks f k NoStamp = (k ≡ f .stamps) × (k < f .cells)
-Lacks f k QueueNumber = ⊥
-Lacks f k SameQueue = ⊥
-Lacks f k (AtLimit h) = ⊥
-Lacks f k (NotQueued h) = ⊥
+abbrev pub Lacks : ℕ → ℕ → ℕ → Refusal → Type 0
+Lacks cells stamps k NoCell = (k ≡ cells) × (k ≤ stamps)
+Lacks cells stamps k NoStamp = (k ≡ stamps) × (k < cells)
+Lacks cells stamps k QueueNumber = ⊥
+Lacks cells stamps k SameQueue = ⊥
+Lacks cells stamps k (AtLimit h) = ⊥
+Lacks cells stamps k (NotQueued h) = ⊥
 
 -- what keeps n orders from being served by an unused store
-abbrev pub Hindered : Fixed → ℕ → Failure → Type 0
-Hindered f n (Refused e) = (e .index < n) × Lacks f (e .index) (e .refusal)
-Hindered f n NoMemory = Enough f n
+abbrev pub Hindered : ℕ → ℕ → ℕ → Failure → Type 0
+Hindered cells stamps n (Refused e) = (e .index < n) × Lacks cells stamps (e .index) (e .refusal)
+Hindered cells stamps n NoMemory = Enough cells stamps n

@@ -104,7 +104,7 @@ pub fn order_of_service<A: Agenda<Item = LineEntry>>(
     requires { ⌜ A·Agenda .sound (now line) ⌝ }
     ensures sound { λ _. ⌜ A·Agenda .sound (now (line .exit)) ⌝ }
     ensures effect { λ r. ⌜ ByOk r (λ v. Dispatched line-le (A·Agenda .meaning (now (line .entry))) (now (orders .entry)) (vec-items v) (A·Agenda .meaning (now (line .exit)))) (λ e. Failed line-le (A·Agenda .meaning (now (line .entry))) (now (orders .entry)) e (A·Agenda .meaning (now (line .exit)))) ⌝ }
-    ensures unused { λ r. ⌜ (Unused line-le (A·Agenda .meaning (now (line .entry))) → ByOk r (λ v. Enough (A·Agenda .meaning (now (line .entry)) .fixed) (length (now (orders .entry))) × (vec-items v ≡ service-order (now (orders .entry)))) (Hindered (A·Agenda .meaning (now (line .entry)) .fixed) (length (now (orders .entry))))) ⌝ }
+    ensures unused { λ r. ⌜ (Unused line-le (A·Agenda .meaning (now (line .entry))) → ByOk r (λ v. Enough (A·Agenda .meaning (now (line .entry)) .fixed .cells) (A·Agenda .meaning (now (line .entry)) .fixed .stamps) (length (now (orders .entry))) × (vec-items v ≡ service-order (now (orders .entry)))) (Hindered (A·Agenda .meaning (now (line .entry)) .fixed .cells) (A·Agenda .meaning (now (line .entry)) .fixed .stamps) (length (now (orders .entry))))) ⌝ }
 {
     match admit(line, orders) {
         Ok(_) => match serve(line, heap) {

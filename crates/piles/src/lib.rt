@@ -10,7 +10,11 @@ use stores::Agenda;
 use stores::Unfit;
 
 // Two limits for each queue.
-pub fn quota_over_quota<B: Agenda + Drop>(below: B, inner: [u16; 32], outer: [u16; 32]) -> Result<Quota<Quota<B>>, Unfit>
+pub fn quota_over_quota<B: Agenda + Drop>(
+    below: B,
+    inner: [u16; 32],
+    outer: [u16; 32],
+) -> Result<Quota<Quota<B>>, Unfit>
     requires sound { ⌜ B·Agenda .sound below ⌝ }
     requires formed { ⌜ Well-formed (Item·Ordered .le) (B·Agenda .meaning below) ⌝ }
     ensures meaning { λ r. ⌜ elim r [ Ok p ↦ with-limits (p .own .limits) (with-limits (p .below .own .limits) (B·Agenda .meaning (p .below .below))) ≡ with-limits outer (with-limits inner (B·Agenda .meaning below)) | Err e ↦ e ≡ OutOfRange ] ⌝ }

@@ -8,7 +8,7 @@ use Rattle.std.specs.declared.result.Result.{Result}
 use Rattle.std.proofs.shelf.Results.{made-weaker}
 use Rattle.elements.specs.declared.lines.LineEntry.{LineEntry}
 use Rattle.elements.specs.Elements.{line-le}
-use Rattle.stores.specs.Meaning.{Fixed, Meaning}
+use Rattle.stores.specs.Meaning.{Meaning}
 use Rattle.waiting_orders.specs.declared.ReadFailure.{ReadFailure}
 use Rattle.waiting_orders.specs.declared.ReadFailure.the-variants.{Line, NoMemory}
 use Rattle.waiting_orders.specs.Lines.{lines-of, Listed, Unlisted}
@@ -26,8 +26,8 @@ module _ {S E : Type 0} (bytes : S → List ℕ) (r : Result S E) where
       pub told-served : (m n : Meaning LineEntry) → Dispatched line-le m orders ys n → made r (λ s. Told m orders (bytes s) n)
       told-served m n d = made-weaker r _ _ (λ s e. Told.served ys d (e ∙ ap service-text lent-is)) said
 
-      pub shown-served : (f : Fixed) → Enough f (length orders) × (ys ≡ service-order orders) → made r (λ s. Shown f orders (bytes s))
-      shown-served f h = made-weaker r _ _ (λ s e. Shown.served (h .0) (e ∙ ap service-text (lent-is ∙ h .1))) said
+      pub shown-served : (cells stamps : ℕ) → Enough cells stamps (length orders) × (ys ≡ service-order orders) → made r (λ s. Shown cells stamps orders (bytes s))
+      shown-served cells stamps h = made-weaker r _ _ (λ s e. Shown.served (h .0) (e ∙ ap service-text (lent-is ∙ h .1))) said
 
     module _ (m n : Meaning LineEntry) where
       told-failed : (e : Failure) (out : List ℕ) → Failed line-le m orders e n → Unserved e out → Told m orders out n
@@ -37,12 +37,12 @@ module _ {S E : Type 0} (bytes : S → List ℕ) (r : Result S E) where
       pub told-unserved : (e : Failure) → Failed line-le m orders e n → made r (λ s. Unserved e (bytes s)) → made r (λ s. Told m orders (bytes s) n)
       told-unserved e f = made-weaker r _ _ (λ s. told-failed e (bytes s) f)
 
-    module _ (f : Fixed) where
-      shown-hindered : (e : Failure) (out : List ℕ) → Hindered f (length orders) e → Unserved e out → Shown f orders out
+    module _ (cells stamps : ℕ) where
+      shown-hindered : (e : Failure) (out : List ℕ) → Hindered cells stamps (length orders) e → Unserved e out → Shown cells stamps orders out
       shown-hindered (Refused e) out h u = Shown.rejected e (h .0) (h .1) u
       shown-hindered NoMemory out h u = absurd u
 
-      pub shown-unserved : (e : Failure) → Hindered f (length orders) e → made r (λ s. Unserved e (bytes s)) → made r (λ s. Shown f orders (bytes s))
+      pub shown-unserved : (e : Failure) → Hindered cells stamps (length orders) e → made r (λ s. Unserved e (bytes s)) → made r (λ s. Shown cells stamps orders (bytes s))
       shown-unserved e h = made-weaker r _ _ (λ s. shown-hindered e (bytes s) h)
 
   -- of a text
@@ -54,8 +54,8 @@ module _ {S E : Type 0} (bytes : S → List ℕ) (r : Result S E) where
       pub reported-read : (m n : Meaning LineEntry) → made r (λ s. Told m lent (bytes s) n) → made r (λ s. Reported m text (bytes s) n)
       reported-read m n = made-weaker r _ _ (λ s t. Reported.read lent kept t)
 
-      pub printed-read : (f : Fixed) → made r (λ s. Shown f lent (bytes s)) → made r (λ s. Printed f text (bytes s))
-      printed-read f = made-weaker r _ _ (λ s t. Printed.read lent kept t)
+      pub printed-read : (cells stamps : ℕ) → made r (λ s. Shown cells stamps lent (bytes s)) → made r (λ s. Printed cells stamps text (bytes s))
+      printed-read cells stamps = made-weaker r _ _ (λ s t. Printed.read lent kept t)
 
     reported-broken : (m : Meaning LineEntry) (e : ReadFailure) (out : List ℕ) → Unlisted (lines-of text) e → Unread e out → Reported m text out m
     reported-broken m (Line line why) out b u = Reported.unread line why b u refl
@@ -64,9 +64,9 @@ module _ {S E : Type 0} (bytes : S → List ℕ) (r : Result S E) where
     pub reported-unread : (m : Meaning LineEntry) (e : ReadFailure) → Unlisted (lines-of text) e → made r (λ s. Unread e (bytes s)) → made r (λ s. Reported m text (bytes s) m)
     reported-unread m e b = made-weaker r _ _ (λ s. reported-broken m e (bytes s) b)
 
-    printed-broken : (f : Fixed) (e : ReadFailure) (out : List ℕ) → Unlisted (lines-of text) e → Unread e out → Printed f text out
-    printed-broken f (Line line why) out b u = Printed.unread line why b u
-    printed-broken f NoMemory out b u = absurd u
+    printed-broken : (cells stamps : ℕ) (e : ReadFailure) (out : List ℕ) → Unlisted (lines-of text) e → Unread e out → Printed cells stamps text out
+    printed-broken cells stamps (Line line why) out b u = Printed.unread line why b u
+    printed-broken cells stamps NoMemory out b u = absurd u
 
-    pub printed-unread : (f : Fixed) (e : ReadFailure) → Unlisted (lines-of text) e → made r (λ s. Unread e (bytes s)) → made r (λ s. Printed f text (bytes s))
-    printed-unread f e b = made-weaker r _ _ (λ s. printed-broken f e (bytes s) b)
+    pub printed-unread : (cells stamps : ℕ) (e : ReadFailure) → Unlisted (lines-of text) e → made r (λ s. Unread e (bytes s)) → made r (λ s. Printed cells stamps text (bytes s))
+    printed-unread cells stamps e b = made-weaker r _ _ (λ s. printed-broken cells stamps e (bytes s) b)

@@ -6,7 +6,7 @@ use lib.ListN.{length}
 use Rattle.std.specs.declared.result.Result.the-variants.{Err}
 use Rattle.elements.specs.declared.lines.LineEntry.{LineEntry}
 use Rattle.elements.specs.Elements.{line-le}
-use Rattle.stores.specs.Meaning.{Fixed, Meaning}
+use Rattle.stores.specs.Meaning.{Meaning}
 use Rattle.stores.specs.Refusals.{number-of, height-of}
 use Rattle.waiting_orders.specs.declared.Unreadable.{Unreadable}
 use Rattle.waiting_orders.specs.declared.ReadFailure.{ReadFailure}
@@ -30,9 +30,9 @@ pub data Told (m : Meaning LineEntry) (orders : List LineEntry) (out : List ℕ)
   rejected : (e : Rejected) → Admits line-le m orders (Err e) n → out ≡ rejection e → Told m orders out n
 
 -- by an unused store of these sizes: the orders in their order of service, where there are cells and stamps for all of them
-pub data Shown (f : Fixed) (orders : List LineEntry) (out : List ℕ) : Type 0 where
-  served : Enough f (length orders) → out ≡ service-text (service-order orders) → Shown f orders out
-  rejected : (e : Rejected) → e .index < length orders → Lacks f (e .index) (e .refusal) → out ≡ rejection e → Shown f orders out
+pub data Shown (cells stamps : ℕ) (orders : List LineEntry) (out : List ℕ) : Type 0 where
+  served : Enough cells stamps (length orders) → out ≡ service-text (service-order orders) → Shown cells stamps orders out
+  rejected : (e : Rejected) → e .index < length orders → Lacks cells stamps (e .index) (e .refusal) → out ≡ rejection e → Shown cells stamps orders out
 
 -- what is printed of a text, by any store: of the orders that its lines tell; or a line that tells none is refused, and the
 -- store is as it was
@@ -41,9 +41,9 @@ pub data Reported (m : Meaning LineEntry) (text out : List ℕ) (n : Meaning Lin
   unread : (line : ℕ) (why : Unreadable) → Broken (lines-of text) line why → out ≡ refused-line (unreadable-number why) line → n ≡ m → Reported m text out n
 
 -- by an unused store of these sizes
-pub data Printed (f : Fixed) (text out : List ℕ) : Type 0 where
-  read : (orders : List LineEntry) → Listed (lines-of text) orders → Shown f orders out → Printed f text out
-  unread : (line : ℕ) (why : Unreadable) → Broken (lines-of text) line why → out ≡ refused-line (unreadable-number why) line → Printed f text out
+pub data Printed (cells stamps : ℕ) (text out : List ℕ) : Type 0 where
+  read : (orders : List LineEntry) → Listed (lines-of text) orders → Shown cells stamps orders out → Printed cells stamps text out
+  unread : (line : ℕ) (why : Unreadable) → Broken (lines-of text) line why → out ≡ refused-line (unreadable-number why) line → Printed cells stamps text out
 
 -- what is printed where a text is not read, or no order of service is told; nothing for want of memory
 abbrev pub Unread : ReadFailure → List ℕ → Type 0

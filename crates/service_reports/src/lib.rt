@@ -54,7 +54,7 @@ fn orders_text<A: Agenda<Item = LineEntry>>(
     requires { ⌜ A·Agenda .sound (now line) ⌝ }
     ensures sound { λ _. ⌜ A·Agenda .sound (now (line .exit)) ⌝ }
     ensures effect { λ r. ⌜ made r (λ s. Told (A·Agenda .meaning (now (line .entry))) (now (orders .entry)) (string-bytes s) (A·Agenda .meaning (now (line .exit)))) ⌝ }
-    ensures unused { λ r. ⌜ (Unused line-le (A·Agenda .meaning (now (line .entry))) → made r (λ s. Shown (A·Agenda .meaning (now (line .entry)) .fixed) (now (orders .entry)) (string-bytes s))) ⌝ }
+    ensures unused { λ r. ⌜ (Unused line-le (A·Agenda .meaning (now (line .entry))) → made r (λ s. Shown (A·Agenda .meaning (now (line .entry)) .fixed .cells) (A·Agenda .meaning (now (line .entry)) .fixed .stamps) (now (orders .entry)) (string-bytes s))) ⌝ }
 {
     match order_of_service(line, orders, heap) {
         Ok(served) => service_text(&served, heap),
@@ -71,7 +71,7 @@ pub fn report<A: Agenda<Item = LineEntry>>(
     requires { ⌜ A·Agenda .sound (now line) ⌝ }
     ensures sound { λ _. ⌜ A·Agenda .sound (now (line .exit)) ⌝ }
     ensures effect { λ r. ⌜ made r (λ s. Reported (A·Agenda .meaning (now (line .entry))) (now (text .entry)) (string-bytes s) (A·Agenda .meaning (now (line .exit)))) ⌝ }
-    ensures unused { λ r. ⌜ (Unused line-le (A·Agenda .meaning (now (line .entry))) → made r (λ s. Printed (A·Agenda .meaning (now (line .entry)) .fixed) (now (text .entry)) (string-bytes s))) ⌝ }
+    ensures unused { λ r. ⌜ (Unused line-le (A·Agenda .meaning (now (line .entry))) → made r (λ s. Printed (A·Agenda .meaning (now (line .entry)) .fixed .cells) (A·Agenda .meaning (now (line .entry)) .fixed .stamps) (now (text .entry)) (string-bytes s))) ⌝ }
 {
     match read_orders(text, heap) {
         Ok(orders) => orders_text(line, &orders, heap),

@@ -1,7 +1,6 @@
 // Reads a waiting line from standard input, an order to a line, and prints the orders as a bench takes them.
 ghost use Rattle.std.specs.Of.String.{string-bytes};
 ghost use Rattle.std.specs.Vec.{made};
-ghost use Rattle.stores.specs.Meaning.{bare-fixed};
 ghost use Rattle.service_reports.specs.Reports.{Printed};
 use elements::LineEntry;
 use elements::LineEntryOrdered;
@@ -20,7 +19,7 @@ const STAMPS: u16 = 32768;
 
 // What is printed for the text, by a table.
 fn printed(text: &[u8], heap: Global) -> Result<String, AllocError>
-    ensures { λ r. ⌜ made r (λ s. Printed (bare-fixed 4096 32768) (now (text .entry)) (string-bytes s)) ⌝ }
+    ensures { λ r. ⌜ made r (λ s. Printed 4096 32768 (now (text .entry)) (string-bytes s)) ⌝ }
 {
     let mut cells = vec![in heap; None; 4096]?;
     let mut line = make(&mut cells, CELLS, STAMPS);

@@ -8,7 +8,7 @@ returns-in-Ok g c =
     record {
       sound = c .order-of-service .ensures .sound;
       effect = told-served string-bytes _ _ _ _ (c .deref .ensures .value) (c .service-text .ensures) _ _ (answer .effect);
-      unused = λ u. shown-served string-bytes _ _ _ _ (c .deref .ensures .value) (c .service-text .ensures) _ (answer .unused u);
+      unused = λ u. shown-served string-bytes _ _ _ _ (c .deref .ensures .value) (c .service-text .ensures) _ _ (answer .unused u);
     }
 
 pub returns-in-Err : need.returns-in-Err
@@ -17,5 +17,5 @@ returns-in-Err g c =
     record {
       sound = c .order-of-service .ensures .sound;
       effect = told-unserved string-bytes _ _ _ _ _ (answer .effect) (c .unserved-text .ensures);
-      unused = λ u. shown-unserved string-bytes _ _ _ _ (answer .unused u) (c .unserved-text .ensures);
+      unused = λ u. shown-unserved string-bytes _ _ _ _ _ (answer .unused u) (c .unserved-text .ensures);
     }

@@ -10,4 +10,4 @@ pub returns : need.returns
 returns c =
     let made-so = c .make-line .ensures .meaning in
     let unused = unused-bare line-le _ 4096 32768 (c .make-line .ensures .formed) made-so in
-    subst (λ f. made (c .report .result) (λ s. Printed f (c .args .text .now) (string-bytes s))) (ap (λ m. m .fixed) made-so) (c .report .ensures .unused unused)
+    subst (λ f. made (c .report .result) (λ s. Printed (f .cells) (f .stamps) (c .args .text .now) (string-bytes s))) (ap (λ m. m .fixed) made-so) (c .report .ensures .unused unused)

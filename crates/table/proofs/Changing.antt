@@ -36,7 +36,7 @@ pub record After {T : Type 0} (le : T → T → Bool) (E : Meaning T → Type 0)
   pub sound : Sound cs next stamps
   pub effect : E (meant le cs next stamps)
 
-module _ {T : Type 0} (le : T → T → Bool) (laws : Laws le) (cs : List (Cell T)) (next stamps : ℕ) (h : Sound cs next stamps) where
+module _ {T : Type 0} {cs : List (Cell T)} {next stamps : ℕ} (h : Sound cs next stamps) (le : T → T → Bool) (laws : Laws le) where
   abbrev before : Meaning T
   before = meant le cs next stamps
 
@@ -71,8 +71,8 @@ module _ {T : Type 0} (le : T → T → Bool) (laws : Laws le) (cs : List (Cell 
         unused : stamped next cs ≡ 0
         unused = let m = h .marked next in grind (arith, tells)
 
-        pub put-done : (cs₂ : List (Cell T)) (next₂ stamps₂ : ℕ) → cs₂ ≡ set cs i (Some new) → next₂ ≡ next + 1 → stamps₂ ≡ stamps → After le (Puts le before q x (Ok next)) cs₂ next₂ stamps₂
-        put-done cs₂ next₂ stamps₂ a b c = along a b c (record {
+        pub put-done : {cs₂ : List (Cell T)} {next₂ stamps₂ : ℕ} → cs₂ ≡ set cs i (Some new) → next₂ ≡ next + 1 → stamps₂ ≡ stamps → After le (Puts le before q x (Ok next)) cs₂ next₂ stamps₂
+        put-done a b c = along a b c (record {
           sound = filled;
           effect = record {
             answer = put-told before q near (unlimited (length cs) stamps q _) room next more refl;
@@ -130,18 +130,18 @@ module _ {T : Type 0} (le : T → T → Bool) (laws : Laws le) (cs : List (Cell 
       };
     }
 
-  pub cancel-done : (k i : ℕ) (r : Record T) → Stamped-at k cs (Some (i, r)) → (cs₂ : List (Cell T)) (next₂ stamps₂ : ℕ) → cs₂ ≡ set cs i None → next₂ ≡ next → stamps₂ ≡ stamps → After le (Cancels le before k (Ok (r .queue))) cs₂ next₂ stamps₂
-  cancel-done k i r at cs₂ next₂ stamps₂ a b c = along a b c (subst (λ n. After le (Cancels le before n (Ok (r .queue))) (set cs i None) next stamps) (stamp-is k cs i r at) (cancelled i r (at .1)))
+  pub cancel-done : (k i : ℕ) (r : Record T) → Stamped-at k cs (Some (i, r)) → {cs₂ : List (Cell T)} {next₂ stamps₂ : ℕ} → cs₂ ≡ set cs i None → next₂ ≡ next → stamps₂ ≡ stamps → After le (Cancels le before k (Ok (r .queue))) cs₂ next₂ stamps₂
+  cancel-done k i r at a b c = along a b c (subst (λ n. After le (Cancels le before n (Ok (r .queue))) (set cs i None) next stamps) (stamp-is k cs i r at) (cancelled i r (at .1)))
 
   pub not-queued : (k : ℕ) → Stamped-at k cs None → Err (NotQueued 0) ≡ cancel-answer before k
   not-queued k e = sym (ap (found 0) (queue-none k (λ q. queue-of le q cs) (λ q. has-none stamp-of k (queue-of le q cs) (omega (arith, position-none (has-stamp k) cs 0 e, tally-queue le q k cs)))))
 
   -- take
-  pub take-done : (q i : ℕ) (e : Entry T) → q < 32 → Front-at le q cs (Some (i, e)) → (cs₂ : List (Cell T)) (next₂ stamps₂ : ℕ) → cs₂ ≡ set cs i None → next₂ ≡ next → stamps₂ ≡ stamps → After le (Takes le before q (Ok (Some e))) cs₂ next₂ stamps₂
-  take-done q i e near at cs₂ next₂ stamps₂ a b c = along a b c (record {
+  pub take-done : (q i : ℕ) (e : Entry T) → q < 32 → Front-at le q cs (Some (i, e)) → {cs₂ : List (Cell T)} {next₂ stamps₂ : ℕ} → cs₂ ≡ set cs i None → next₂ ≡ next → stamps₂ ≡ stamps → After le (Takes le before q (Ok (Some e))) cs₂ next₂ stamps₂
+  take-done q i e near at a b c = along a b c (record {
     sound = left i r (at .1);
     effect = record {
-      answer = first-some le cs next stamps q near i e at;
+      answer = first-some h le q near i e at;
       after = λ j. record { lists = lists-drop le laws cs i r near (at .1) (once h (e .stamp)) (rest (getD (lists-of le cs) q [])) (sym (ap rest (was i r (at .1)) ∙ rest-insert (precedes-by le) (strict le laws) e (queue-of le q (set cs i None)) fronts)) j; next = next };
       fixed = fixed-left i r (at .1);
       held = omega arith;
@@ -165,8 +165,8 @@ module _ {T : Type 0} (le : T → T → Bool) (laws : Laws le) (cs : List (Cell 
       marked = λ k. omega (arith, h .marked k, stamped-moved k a b cs);
     }
 
-    pub meld-done : (n : ℕ) → n ≡ queued b cs → (cs₂ : List (Cell T)) (next₂ stamps₂ : ℕ) → cs₂ ≡ map (moved a b) cs → next₂ ≡ next → stamps₂ ≡ stamps → After le (Melds le before a b (Ok n)) cs₂ next₂ stamps₂
-    meld-done n e cs₂ next₂ stamps₂ x y z = along x y z (record {
+    pub meld-done : (n : ℕ) → n ≡ queued b cs → {cs₂ : List (Cell T)} {next₂ stamps₂ : ℕ} → cs₂ ≡ map (moved a b) cs → next₂ ≡ next → stamps₂ ≡ stamps → After le (Melds le before a b (Ok n)) cs₂ next₂ stamps₂
+    meld-done n e x y z = along x y z (record {
       sound = joined;
       effect = record {
         answer = meld-told (before .state) a b n l m ne (e ∙ sym (ap length (list-is le cs b m) ∙ length-queue le b cs));

@@ -47,7 +47,7 @@ module _ {T : Type 0} {cs : List (Cell T)} {next stamps : ℕ} (h : Sound cs nex
     low = omega arith;
   }
 
-module _ {T : Type 0} (le : T → T → Bool) (cs : List (Cell T)) (next stamps q : ℕ) (near : q < 32) where
+module _ {T : Type 0} {cs : List (Cell T)} {next stamps : ℕ} (h : Sound cs next stamps) (le : T → T → Bool) (q : ℕ) (near : q < 32) where
   pub first-none : Front-at le q cs None → Ok None ≡ first-answer (meant le cs next stamps .state) q
   first-none e = first-told (meant le cs next stamps .state) q None near (sym (ap front (list-is le cs q near ∙ e)))
 

@@ -52,6 +52,7 @@ pub fn make<'a, T: Ordered + Copy>(
     ensures sound { λ r. ⌜ Sound-table r ⌝ }
     ensures formed { λ r. ⌜ Well-formed (T·Ordered .le) (meaning-of (T·Ordered .le) r) ⌝ }
     ensures meaning { λ r. ⌜ meaning-of (T·Ordered .le) r ≡ fresh-bare cells stamps ⌝ }
+    ensures lent { λ r. ⌜ name (r .cells) ≡ name (slice .entry) ⌝ }
 {
     clear(slice);
     Table {
@@ -61,6 +62,7 @@ pub fn make<'a, T: Ordered + Copy>(
     }
 }
 
+// The clauses `lent` say that the table still has the slice of which it was made.
 impl<'a, T: Ordered + Copy> Table<'a, T> {
     fn empty(&self) -> Option<usize>
         ensures { λ r. ⌜ r ≡ position empty (now (now (self .entry) .cells)) 0 ⌝ }

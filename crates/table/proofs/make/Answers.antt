@@ -1,3 +1,4 @@
+use mathlib.Core.Path.{refl}
 use lib.ListN.{length}
 use Rattle.table.proofs.Standing.{formed, made-sound, made-fresh}
 use Rattle.table.proofs.make.Needs as need
@@ -9,4 +10,5 @@ returns g c =
       sound = sound;
       formed = formed sound (g .T·Ordered .le) (g .T·Ordered·met .laws);
       meaning = made-fresh (length (c .args .slice .now)) (c .args .cells) (c .args .stamps) (c .clear .last .cells) (c .pre) (c .clear .ensures) (g .T·Ordered .le);
+      lent = refl;
     }

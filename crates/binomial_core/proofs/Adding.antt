@@ -6,12 +6,12 @@ use Prim.Native.Nat.{ℕ, _+_, _<_, _≤_}
 use native.Mathlib.Omega.{arith}
 use lib.ListN.{length, getD, set}
 use Rattle.std.specs.declared.option.Option.{Option}
-use Rattle.std.specs.declared.option.Option.the-variants.{Some, None}
+use Rattle.std.specs.declared.option.Option.the-variants.{Some}
 use Rattle.elements.specs.declared.entries.Entry.{Entry}
 use Rattle.elements.specs.Order.{Strict, precedes-by, stamp-of}
 use Rattle.stores.specs.SortedLists.{merge, tally}
 use Rattle.stores.proofs.Merging.{merge-nil, merge-assoc, merge-four, tally-merge}
-use Rattle.cells.specs.Trees.{Tree, leaf, node, size, uses}
+use Rattle.cells.specs.Trees.{Tree, leaf, node, size}
 use Rattle.cells.specs.Forms.{Meldable}
 use Rattle.cells.proofs.Trees.{node-at}
 use Rattle.forests.specs.Forests.{listed}

@@ -1,7 +1,7 @@
 -- A turn of the carry: a tree of degree k, and trees of no lower degrees.
 use mathlib.Core.Path.{_≡_, refl, sym, ap, subst, _∙_}
 use mathlib.Core.Bool.{Bool}
-use mathlib.Core.List.{List, [], _∷_}
+use mathlib.Core.List.{List, []}
 use Prim.Native.Nat.{ℕ, _+_, _<_, _≤_}
 use native.Mathlib.Omega.{arith}
 use lib.ListN.{length, getD, set}
@@ -11,19 +11,19 @@ use Rattle.elements.specs.declared.entries.Entry.{Entry}
 use Rattle.elements.specs.Order.{Strict, precedes-by, stamp-of}
 use Rattle.stores.specs.SortedLists.{merge, tally}
 use Rattle.stores.proofs.Merging.{merge-nil, merge-assoc, tally-merge}
-use Rattle.cells.specs.Trees.{Tree, leaf, node, size, uses}
+use Rattle.cells.specs.Trees.{Tree, leaf, node, size}
 use Rattle.cells.proofs.Trees.{node-at}
 use Rattle.forests.specs.Forests.{Before, listed}
 use Rattle.forests.specs.Parts.{Apart, Rooted, Joined, Added}
 use Rattle.forests.proofs.Listing.{list-lone, tally-first, tally-lone}
 use Rattle.forests.proofs.Parting.{reshaped, built-shaped, siblings-at, rooted, rooted-lone, beside}
 use Rattle.forests.proofs.Adding.{apart-swapped, added-none, added-unswapped, prepended}
-use Rattle.binomial_core.specs.Binomial.{trees, Falling, Children, Lone, Rising, Twins, cells-of, no-link, before-next}
+use Rattle.binomial_core.specs.Binomial.{trees, Children, Lone, Rising, Twins, cells-of, no-link, before-next}
 use Rattle.binomial_core.specs.declared.links.Link.{Link}
 use Rattle.binomial_core.proofs.Lawfulness.{laid}
 use Rattle.binomial_core.proofs.Joining.{children-of}
 
-pub lone-before : {A : Type 0} (k : ℕ) (t : Tree A) → Lone k t → Before leaf t
+lone-before : {A : Type 0} (k : ℕ) (t : Tree A) → Lone k t → Before leaf t
 lone-before k leaf h = h
 lone-before k (node i e c s) h = h .0
 

@@ -1,16 +1,16 @@
 -- A tree of degree k has 2ᵏ nodes, so that degrees are low.
-use mathlib.Core.Path.{_≡_, refl, sym, ap, _∙_}
-use Prim.Native.Nat.{ℕ, zero, suc, _+_, _^_, _<_, _≤_}
+use mathlib.Core.Path.{_≡_, refl, ap, _∙_}
+use Prim.Native.Nat.{ℕ, _+_, _^_, _<_, _≤_}
 use native.Mathlib.Nat.{two-pow-succ, pow-le-pow-right}
 use native.Mathlib.Numerals.{add-one}
 use native.Mathlib.Omega.{arith}
 use Rattle.cells.specs.Trees.{Tree, leaf, node, size}
-use Rattle.binomial_core.specs.Binomial.{trees, Falling, Lone, Rising, Degrees-are-low}
+use Rattle.binomial_core.specs.Binomial.{trees, Falling, Degrees-are-low}
 
 double : (n : ℕ) → 2 ^ (n + 1) ≡ 2 ^ n + 2 ^ n
 double n = ap (λ m. 2 ^ m) (add-one n) ∙ two-pow-succ n
 
-pub falling-size : {A : Type 0} (t : Tree A) → Falling t → size t + 1 ≡ 2 ^ trees t
+falling-size : {A : Type 0} (t : Tree A) → Falling t → size t + 1 ≡ 2 ^ trees t
 falling-size leaf h = refl
 falling-size (node i e c s) h = omega (arith, falling-size c (h .1), falling-size s (h .2), double (trees s), ap (λ n. 2 ^ n) (h .0))
 

@@ -1,17 +1,17 @@
 -- Two trees of one degree become one of the next.
 use mathlib.Core.Path.{_≡_, refl, sym, ap, subst, _∙_}
-use mathlib.Core.Bool.{Bool, true, false}
+use mathlib.Core.Bool.{Bool, true}
 use mathlib.Core.List.{List}
-use Prim.Native.Nat.{ℕ, _+_, _<_, _≤_}
+use Prim.Native.Nat.{ℕ, _+_, _<_}
 use native.Mathlib.Omega.{arith}
-use lib.ListN.{length, getD, set}
+use lib.ListN.{length, getD}
 use Rattle.std.specs.declared.option.Option.the-variants.{Some, None}
 use Rattle.elements.specs.declared.entries.Entry.{Entry}
 use Rattle.elements.specs.Order.{Strict, precedes-by, stamp-of}
-use Rattle.cells.specs.Trees.{Tree, leaf, node, size}
-use Rattle.forests.specs.Parts.{Rooted, Joinable, Joined, adopted}
+use Rattle.cells.specs.Trees.{Tree, leaf, size}
+use Rattle.forests.specs.Parts.{Rooted, Joined, adopted}
 use Rattle.forests.proofs.Joining.{join-swapped, joined}
-use Rattle.binomial_core.specs.Binomial.{trees, Falling, Children, Lone, Twins, cells-of, no-link}
+use Rattle.binomial_core.specs.Binomial.{Children, Lone, Twins, cells-of, no-link}
 use Rattle.binomial_core.specs.declared.links.Link.{Link}
 use Rattle.binomial_core.proofs.Degrees.{low}
 use Rattle.binomial_core.proofs.Lawfulness.{laid}

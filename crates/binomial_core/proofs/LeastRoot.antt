@@ -7,12 +7,11 @@ use Prim.Native.Nat.{ℕ, _+_, _<_, _≤_}
 use native.Mathlib.Omega.{arith}
 use lib.ListN.{length, getD}
 use Rattle.std.proofs.shelf.Ways.{tells}
-use Rattle.std.specs.declared.option.Option.{Option}
 use Rattle.std.specs.declared.option.Option.the-variants.{Some, None}
 use Rattle.elements.specs.declared.entries.Entry.{Entry}
 use Rattle.elements.specs.Order.{Strict, precedes-by, stamp-of}
 use Rattle.stores.specs.SortedLists.{tally}
-use Rattle.cells.specs.Trees.{Tree, leaf, node, size, Held}
+use Rattle.cells.specs.Trees.{Tree, leaf, node, Held}
 use Rattle.cells.proofs.Trees.{node-at, leaf-at, read-same}
 use Rattle.cells.specs.Forms.{Stored-at}
 use Rattle.forests.specs.Forests.{Any, Over, listed, shaped}

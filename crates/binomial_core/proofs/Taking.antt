@@ -1,9 +1,9 @@
 -- First and take of a binomial heap: the front entry is at the least root, and its children are melded with the other
 -- trees.
 use mathlib.Core.Path.{_≡_, refl, sym, ap, subst, _∙_}
-use mathlib.Core.Bool.{Bool, true, cond}
+use mathlib.Core.Bool.{Bool, cond}
 use mathlib.Core.List.{List, _∷_}
-use mathlib.Core.Logic.{_⊎_, inl, inr}
+use mathlib.Core.Logic.{inl, inr}
 use Prim.Native.Nat.{ℕ, _+_, _-_, _<_, _≤_}
 use native.Mathlib.Omega.{arith}
 use lib.Dec.{eqb}
@@ -17,7 +17,7 @@ use Rattle.elements.proofs.Strictness.{strict}
 use Rattle.stores.specs.SortedLists.{merge, tally}
 use Rattle.stores.specs.Calls.{first-answer}
 use Rattle.stores.specs.Promises.{Takes}
-use Rattle.stores.proofs.Merging.{take-right, merge-first, merge-comm, tally-merge}
+use Rattle.stores.proofs.Merging.{take-right, merge-first, merge-comm}
 use Rattle.cells.specs.Trees.{Tree, leaf, node, root, size, uses}
 use Rattle.cells.specs.Forms.{Stored, Built, Meldable, Melded}
 use Rattle.cells.specs.Queues.{Sound, no-queue, state-of, meaning-of, with-queue, with-idle}
@@ -25,15 +25,14 @@ use Rattle.cells.specs.declared.heads.Heads.{Heads}
 use Rattle.cells.proofs.Soundness.{at-stored, at-cells, at-root, at-size, at-count, at-stamps-once}
 use Rattle.cells.proofs.Changing.{Done}
 use Rattle.cells.proofs.Taking.{first-some, Removed, taking}
-use Rattle.forests.specs.Forests.{Any, Over, listed, shaped}
-use Rattle.forests.specs.Parts.{Forest-at, Parted}
+use Rattle.forests.specs.Forests.{Any, listed, shaped}
+use Rattle.forests.specs.Parts.{Forest-at}
 use Rattle.forests.proofs.Listing.{leads, list-lone, tally-lone}
 use Rattle.forests.proofs.Parting.{reshaped, beside}
 use Rattle.binomial_core.specs.Binomial.{trees, Falling, Children, Rising, Topped, Least, Taken-out, cells-of, no-link, idle-to, binomial}
 use Rattle.binomial_core.specs.declared.links.Link.{Link}
 use Rattle.binomial_core.proofs.Lawfulness.{laid, lawful}
 use Rattle.binomial_core.proofs.LeastRoot.{least-held}
-use Rattle.binomial_core.proofs.TakingOut.{least-uses}
 
 -- the least root is the front of the list
 front-of : {A : Type 0} (before : A → A → Bool) (key : A → ℕ) → Strict before key → (r : ℕ) (x : A) (t : Tree A) → Least before r x t → (out : List A) × (listed before t ≡ x ∷ out)

@@ -2,7 +2,7 @@
 use mathlib.Core.Path.{_≡_, refl, sym, ap, subst, _∙_}
 use mathlib.Core.Bool.{Bool, true}
 use mathlib.Core.List.{List, [], _∷_}
-use mathlib.Core.Logic.{_⊎_, inl, inr}
+use mathlib.Core.Logic.{inl, inr}
 use Prim.Native.Nat.{ℕ, _+_, _-_, _<_, _≤_}
 use native.Mathlib.Omega.{arith}
 use lib.ListN.{length, getD, set}
@@ -29,7 +29,7 @@ use Rattle.binomial_core.proofs.Joining.{children-of}
 use Rattle.binomial_core.proofs.Carrying.{lower}
 
 -- a root is a cell of its forest
-pub least-uses : {A : Type 0} (before : A → A → Bool) (r : ℕ) (x : A) (t : Tree A) → Least before r x t → 1 ≤ uses t r
+least-uses : {A : Type 0} (before : A → A → Bool) (r : ℕ) (x : A) (t : Tree A) → Least before r x t → 1 ≤ uses t r
 least-uses before r x leaf l = absurd l
 least-uses before r x (node i e c s) (inl l) = grind (arith, tells, l .0)
 least-uses before r x (node i e c s) (inr l) = omega (arith, least-uses before r x s (l .0))

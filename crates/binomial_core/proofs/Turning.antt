@@ -2,14 +2,14 @@
 use mathlib.Core.Path.{_≡_, refl, sym, ap, subst, _∙_}
 use mathlib.Core.Bool.{Bool}
 use mathlib.Core.List.{List}
-use Prim.Native.Nat.{ℕ, _+_, _<_, _≤_}
+use Prim.Native.Nat.{ℕ, _+_, _<_}
 use native.Mathlib.Omega.{arith}
 use lib.ListN.{length, getD, set}
 use Rattle.std.specs.declared.option.Option.{Option}
 use Rattle.std.specs.declared.option.Option.the-variants.{Some, None}
 use Rattle.elements.specs.declared.entries.Entry.{Entry}
 use Rattle.elements.specs.Order.{Strict, precedes-by, stamp-of}
-use Rattle.cells.specs.Trees.{Tree, leaf, node, size}
+use Rattle.cells.specs.Trees.{Tree, leaf, node}
 use Rattle.cells.specs.Forms.{Stored-at, Built}
 use Rattle.cells.proofs.Trees.{Node}
 use Rattle.forests.specs.Forests.{shaped}

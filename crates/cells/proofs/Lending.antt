@@ -1,5 +1,5 @@
 -- Both slices are taken out of a store, lent, and put back.
-use mathlib.Core.Path.{_≡_, refl, sym, subst}
+use mathlib.Core.Path.{_≡_, sym, subst}
 use mathlib.Core.List.{List}
 use denote.Ref.{RefT, now}
 use Prim.Native.Nat.{ℕ}
@@ -16,11 +16,6 @@ use Rattle.cells.specs.declared.heads.Heads.{Heads}
 
 carried : {A B : Type 0} (P : A → B → Type 0) {a a′ : A} {b b′ : B} → a ≡ a′ → b ≡ b′ → P a b → P a′ b′
 carried P {a} {a′} {b} {b′} p q h = subst (λ y. P a′ y) q (subst (λ x. P x b) p h)
-
--- what does not change at all is unchanged by a refused call too
-pub still : {A S : Type 0} (r : Result A Refusal) (x : S) → Unchanged r x x
-still (Ok a) x = tt
-still (Err f) x = refl
 
 -- a refused put writes no entry
 pub none-placed : {T : Type 0} (r : Result ℕ Refusal) (o : Option ℕ) (es es′ : List (Entry T)) (x : T) → es′ ≡ placed r o es x → Unchanged r es es′

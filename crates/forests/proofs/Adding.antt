@@ -3,16 +3,16 @@ use mathlib.Core.Path.{_≡_, refl, sym, ap, subst, _∙_}
 use mathlib.Core.List.{List}
 use Prim.Native.Nat.{ℕ, _+_, _<_, _≤_}
 use native.Mathlib.Omega.{arith}
-use lib.ListN.{length, getD, set, length-set}
+use lib.ListN.{length, getD, set}
 use Rattle.std.proofs.shelf.Lists.{getD-set-other}
 use Rattle.std.proofs.shelf.Ways.{tells}
 use Rattle.std.specs.declared.option.Option.{Option}
 use Rattle.std.specs.declared.option.Option.the-variants.{Some, None}
 use Rattle.elements.specs.declared.entries.Entry.{Entry}
 use Rattle.elements.specs.Order.{Strict, precedes-by, stamp-of}
-use Rattle.stores.specs.SortedLists.{merge, tally}
-use Rattle.stores.proofs.Merging.{merge-nil, merge-comm}
-use Rattle.cells.specs.Trees.{Tree, leaf, node, root, size, uses, Held}
+use Rattle.stores.specs.SortedLists.{merge}
+use Rattle.stores.proofs.Merging.{merge-comm}
+use Rattle.cells.specs.Trees.{Tree, leaf, node, size, uses, Held}
 use Rattle.cells.specs.Forms.{Stored-at}
 use Rattle.cells.proofs.Trees.{framed, leaf-at}
 use Rattle.forests.specs.Forests.{Layout, Heap-ordered, listed, shaped}

@@ -1,7 +1,7 @@
 -- Two trees become one: the root that is preceded becomes the other's first child.
 use mathlib.Core.Path.{_≡_, refl, sym, ap, subst, _∙_}
 use mathlib.Core.Bool.{true, false, cond}
-use mathlib.Core.List.{List, _∷_}
+use mathlib.Core.List.{List}
 use Prim.Native.Nat.{ℕ, _+_, _<_, _≤_}
 use native.Mathlib.Omega.{arith}
 use lib.Dec.{eqb}
@@ -9,12 +9,12 @@ use lib.ListN.{length, getD, set, length-set}
 use Rattle.std.proofs.shelf.Lists.{getD-set-same, getD-set-other}
 use Rattle.std.proofs.shelf.Ways.{tells}
 use Rattle.std.specs.declared.option.Option.{Option}
-use Rattle.std.specs.declared.option.Option.the-variants.{Some, None}
+use Rattle.std.specs.declared.option.Option.the-variants.{Some}
 use Rattle.elements.specs.declared.entries.Entry.{Entry}
 use Rattle.elements.specs.Order.{Strict, precedes-by, stamp-of}
 use Rattle.stores.specs.SortedLists.{merge, tally}
 use Rattle.stores.proofs.Merging.{merge-comm}
-use Rattle.cells.specs.Trees.{Tree, leaf, node, root, size, uses, Held, Linked}
+use Rattle.cells.specs.Trees.{Tree, leaf, node, root, uses, Held, Linked}
 use Rattle.cells.specs.Forms.{Stored-at}
 use Rattle.cells.proofs.Trees.{set-framed, read-same}
 use Rattle.forests.specs.Forests.{Layout, Heap-ordered, Any, listed, shaped}

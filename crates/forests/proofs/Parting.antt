@@ -1,6 +1,6 @@
 -- Forests in slices: what stays, what is read back, and how one forest is divided into two, tree by tree.
 use mathlib.Core.Path.{_≡_, refl, sym, ap, subst, _∙_}
-use mathlib.Core.List.{List, []}
+use mathlib.Core.List.{List}
 use Prim.Native.Nat.{ℕ, _+_, _<_, _≤_}
 use native.Mathlib.Omega.{arith}
 use lib.ListN.{length, getD, set, length-set}
@@ -11,14 +11,14 @@ use Rattle.std.specs.declared.option.Option.the-variants.{Some, None}
 use Rattle.elements.specs.declared.entries.Entry.{Entry}
 use Rattle.elements.specs.Order.{Strict, precedes-by, stamp-of}
 use Rattle.stores.specs.SortedLists.{merge, tally}
-use Rattle.stores.proofs.Merging.{merge-nil, tally-merge}
+use Rattle.stores.proofs.Merging.{merge-nil}
 use Rattle.cells.specs.Trees.{Tree, leaf, node, root, size, uses, Linked, tree-at}
 use Rattle.cells.specs.Forms.{Stored-at, Built}
 use Rattle.cells.proofs.Trees.{framed, set-framed, read-back, Node, node-at, leaf-at}
 use Rattle.forests.specs.Forests.{Layout, Before, listed, shaped}
 use Rattle.forests.specs.Parts.{Forest-at, Apart, Parted, Rooted}
 use Rattle.forests.proofs.Layouts.{Consistent}
-use Rattle.forests.proofs.Listing.{list-moved, tally-first, tally-lone}
+use Rattle.forests.proofs.Listing.{list-moved, tally-first}
 
 module _ {T K : Type 0} (L : Layout T K) where
   -- how many nodes the forest at a has that is read from the slices
@@ -134,7 +134,7 @@ module _ {T K : Type 0} (L : Layout T K) where
           }
 
       -- one division after another
-      pub part-then : {P Q P′ Q′ : Tree (Entry T) → Type 0} {ls ls₁ ls₂ : List K} {es list : List (Entry T)} {own : ℕ → ℕ} {count : ℕ} {a b a′ b′ : Option ℕ} → (p : Parted L P Q ls es list own count ls₁ a b) → Parted L P′ Q′ ls₁ es (merge (precedes-by (L .le)) (listed (precedes-by (L .le)) (p .first)) (listed (precedes-by (L .le)) (p .second))) (λ k. uses (p .first) k + uses (p .second) k) (size (p .first) + size (p .second)) ls₂ a′ b′ → Parted L P′ Q′ ls es list own count ls₂ a′ b′
+      part-then : {P Q P′ Q′ : Tree (Entry T) → Type 0} {ls ls₁ ls₂ : List K} {es list : List (Entry T)} {own : ℕ → ℕ} {count : ℕ} {a b a′ b′ : Option ℕ} → (p : Parted L P Q ls es list own count ls₁ a b) → Parted L P′ Q′ ls₁ es (merge (precedes-by (L .le)) (listed (precedes-by (L .le)) (p .first)) (listed (precedes-by (L .le)) (p .second))) (λ k. uses (p .first) k + uses (p .second) k) (size (p .first) + size (p .second)) ls₂ a′ b′ → Parted L P′ Q′ ls es list own count ls₂ a′ b′
       part-then p q = record {
         first = q .first;
         second = q .second;

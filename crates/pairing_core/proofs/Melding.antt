@@ -11,7 +11,7 @@ use Rattle.elements.specs.Order.{precedes-by}
 use Rattle.stores.specs.SortedLists.{merge}
 use Rattle.stores.proofs.Merging.{merge-nil}
 use Rattle.cells.specs.Trees.{Tree, leaf, node, root}
-use Rattle.cells.specs.Forms.{Stored-at, Meldable, Melded}
+use Rattle.cells.specs.Forms.{Meldable, Melded}
 use Rattle.forests.specs.Forests.{Before, listed}
 use Rattle.forests.specs.Parts.{Joinable, Joined}
 use Rattle.forests.proofs.Parting.{rooted-lone, reshaped}

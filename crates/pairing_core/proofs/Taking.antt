@@ -1,8 +1,8 @@
 -- First and take of a pairing heap: the front entry is at the root, and its children become one tree.
-use mathlib.Core.Path.{_≡_, refl, sym, ap, subst, _∙_}
+use mathlib.Core.Path.{_≡_, sym, ap, subst, _∙_}
 use mathlib.Core.Bool.{Bool}
 use mathlib.Core.List.{List}
-use Prim.Native.Nat.{ℕ, _+_, _-_, _<_, _≤_}
+use Prim.Native.Nat.{ℕ, _-_, _<_, _≤_}
 use native.Mathlib.Omega.{arith}
 use lib.ListN.{length, getD, set}
 use Rattle.std.specs.declared.option.Option.{Option}
@@ -25,7 +25,7 @@ use Rattle.cells.proofs.Taking.{first-some, removed-root, taking}
 use Rattle.forests.specs.Forests.{Any, listed}
 use Rattle.forests.specs.Parts.{Forest-at}
 use Rattle.forests.proofs.Listing.{list-lone}
-use Rattle.pairing_core.specs.Pairing.{Alone, cells-of, no-link, idle-to, pairing}
+use Rattle.pairing_core.specs.Pairing.{cells-of, no-link, idle-to, pairing}
 use Rattle.pairing_core.specs.declared.links.Link.{Link}
 use Rattle.pairing_core.proofs.Lawfulness.{lawful}
 

@@ -2,16 +2,16 @@
 use mathlib.Core.Path.{_≡_, refl, sym, ap, subst, _∙_}
 use mathlib.Core.Bool.{Bool}
 use mathlib.Core.List.{List, []}
-use Prim.Native.Nat.{ℕ, _+_, _<_, _≤_}
+use Prim.Native.Nat.{ℕ, _+_, _<_}
 use native.Mathlib.Omega.{arith}
 use lib.ListN.{length, getD, set}
 use Rattle.std.specs.declared.option.Option.{Option}
 use Rattle.std.specs.declared.option.Option.the-variants.{Some, None}
 use Rattle.elements.specs.declared.entries.Entry.{Entry}
 use Rattle.elements.specs.Order.{Strict, precedes-by, stamp-of}
-use Rattle.stores.specs.SortedLists.{merge, tally}
+use Rattle.stores.specs.SortedLists.{merge}
 use Rattle.stores.proofs.Merging.{tally-merge}
-use Rattle.cells.specs.Trees.{Tree, leaf, node, root, size, uses}
+use Rattle.cells.specs.Trees.{Tree, leaf, node, size, uses}
 use Rattle.cells.specs.Forms.{Stored-at}
 use Rattle.cells.proofs.Trees.{Node, node-at, leaf-at}
 use Rattle.forests.specs.Forests.{Any, Before, listed, shaped}

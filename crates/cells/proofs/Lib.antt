@@ -1,0 +1,10 @@
+pub mod Trees
+pub mod IdleCells
+pub mod Soundness
+pub mod Changing
+pub mod Putting
+pub mod Taking
+pub mod Melding
+pub mod FreshStore
+pub mod Counting
+pub mod Meldability

@@ -1,0 +1,4 @@
+pub mod Trees
+pub mod IdleCells
+pub mod Forms
+pub mod Queues

@@ -1,0 +1,5 @@
+use Rattle.leftist.proofs.Lending.{sound-out}
+use Rattle.leftist.proofs.store.Leftist.meld_in_place.Needs as need
+
+pub meld-queues-answer-requires : need.meld-queues-answer-requires
+meld-queues-answer-requires g c κs = sound-out (g .T·Ordered .le) (c .args .self .now .heads) (c .take-links .ensures .value) (c .take-entries .ensures .value) (c .pre)

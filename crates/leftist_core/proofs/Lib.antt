@@ -1,0 +1,3 @@
+pub mod Lawfulness
+pub mod Melding
+pub mod Taking

@@ -1,0 +1,55 @@
+use mathlib.Core.Path.{refl}
+use native.Mathlib.Omega.{arith}
+use Rattle.elements.proofs.Strictness.{strict}
+use Rattle.cells.proofs.Melding.{meld-into, meld-from, meld-same, meldable, counts-few, melding}
+use Rattle.leftist_core.specs.Leftist.{leftist}
+use Rattle.leftist_core.proofs.Lawfulness.{lawful}
+use Rattle.leftist_core.proofs.queues.meld_queues.Needs as need
+
+pub returns-then-into-ge-QUEUES : need.returns-then-into-ge-QUEUES
+returns-then-into-ge-QUEUES g c =
+    let le = g .T·Ordered .le in
+    record {
+      sound = c .pre;
+      effect = meld-into (leftist le) (lawful le (strict le (g .T·Ordered·met .laws))) (c .pre) (c .args .into) (c .args .from) (c .if-into-ge-QUEUES .taken);
+      heads = refl;
+      links = refl;
+    }
+
+pub returns-then-from-ge-QUEUES : need.returns-then-from-ge-QUEUES
+returns-then-from-ge-QUEUES g c =
+    let le = g .T·Ordered .le in
+    record {
+      sound = c .pre;
+      effect = meld-from (leftist le) (lawful le (strict le (g .T·Ordered·met .laws))) (c .pre) (c .args .into) (c .args .from) (c .if-into-ge-QUEUES .left) (c .if-from-ge-QUEUES .taken);
+      heads = refl;
+      links = refl;
+    }
+
+pub returns-then-into-from : need.returns-then-into-from
+returns-then-into-from g c =
+    let le = g .T·Ordered .le in
+    record {
+      sound = c .pre;
+      effect = meld-same (leftist le) (lawful le (strict le (g .T·Ordered·met .laws))) (c .pre) (c .args .into) (c .args .from) (c .if-into-ge-QUEUES .left) (c .if-from-ge-QUEUES .left) (c .if-into-from .taken);
+      heads = refl;
+      links = refl;
+    }
+
+pub meld-melded-requires : need.meld-melded-requires
+meld-melded-requires g c κs =
+    let le = g .T·Ordered .le in
+    (_, _, meldable (leftist le) (lawful le (strict le (g .T·Ordered·met .laws))) (c .pre) (c .args .into) (c .args .from) (c .if-into-ge-QUEUES .left) (c .if-from-ge-QUEUES .left) (c .if-into-from .left))
+
+pub add-kept : need.add-kept
+add-kept g c =
+    let le = g .T·Ordered .le in
+    omega (arith, counts-few (leftist le) (lawful le (strict le (g .T·Ordered·met .laws))) (c .pre) (c .args .into) (c .args .from) (c .if-into-ge-QUEUES .left) (c .if-from-ge-QUEUES .left) (c .if-into-from .left))
+
+pub returns : need.returns
+returns g c =
+    let le = g .T·Ordered .le in
+    let fine = lawful le (strict le (g .T·Ordered·met .laws)) in
+    let m = c .meld-melded .ensures _ _ (meldable (leftist le) fine (c .pre) (c .args .into) (c .args .from) (c .if-into-ge-QUEUES .left) (c .if-from-ge-QUEUES .left) (c .if-into-from .left)) in
+    let d = melding (leftist le) fine (c .pre) (c .args .into) (c .args .from) (c .if-into-ge-QUEUES .left) (c .if-from-ge-QUEUES .left) (c .if-into-from .left) _ _ (omega (arith, c .meld-melded .kept .links)) m _ _ (c .settle .ensures) (c .settle-2 .ensures) in
+    record { sound = d .sound; effect = d .effect; heads = tt; links = tt }

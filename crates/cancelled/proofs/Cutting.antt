@@ -16,6 +16,7 @@ use Rattle.std.proofs.shelf.Ways.{tells}
 use Rattle.std.proofs.shelf.Tests.{cond-true, cond-false, cases-lt, cases-eq, eq-eqb, ne-eqb, lt-ltb}
 use Rattle.elements.specs.declared.entries.Entry.{Entry}
 use Rattle.elements.specs.Order.{Strict, precedes-by, stamp-of}
+use Rattle.stores.specs.declared.refusals.Refusal.{Refusal}
 use Rattle.stores.specs.declared.refusals.Refusal.the-variants.{NotQueued}
 use Rattle.stores.specs.SortedLists.{has, without, tally}
 use Rattle.stores.specs.Meaning.{State, Meaning, list-of}
@@ -58,9 +59,10 @@ module _ {T : Type 0} {le : T → T → Bool} {B : Type 0} (marks counts : List 
         | inr ge ↦ ap (λ l. tally stamp-of l s) (getD-past kss p [] (omega (arith, queues-kept marks counts h m o)))
       ]
 
-  pub cancel-none : (s v : ℕ) → v ≡ getD marks s 0 → v ≡ 0 → Err (NotQueued h) ≡ cancel-answer (lazily marks m) s
-  cancel-none s v is off =
-      ap (λ k. Err (NotQueued k)) (o .above)
+  pub cancel-none : (s v : ℕ) → v ≡ getD marks s 0 → v ≡ 0 → (f : Refusal) → f ≡ NotQueued h → Err f ≡ cancel-answer (lazily marks m) s
+  cancel-none s v is off f told =
+      ap Err told
+      ∙ ap (λ k. Err (NotQueued k)) (o .above)
       ∙ sym (ap (found (m .fixed .height + 1)) (queue-none s kss 0 (λ p. unmarked s p (λ z. omega (arith, is, off, z)))))
 
   module _ (q s : ℕ) (near : q < 32) (here : getD marks s 0 ≡ q + 1) where

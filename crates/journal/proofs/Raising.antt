@@ -2,9 +2,10 @@
 use mathlib.Core.Path.{_≡_, refl, ap, sym, subst, _∙_}
 use mathlib.Core.Bool.{Bool}
 use mathlib.Core.List.{List, [], _∷_}
-use Prim.Native.Nat.{ℕ, _+_}
+use Prim.Native.Nat.{ℕ, _+_, _≤_}
 use native.Mathlib.Omega.{arith}
 use Rattle.std.specs.shelf.Lists.{All}
+use Rattle.std.proofs.shelf.Elements.{all-weaker}
 use Rattle.std.specs.declared.option.Option.{Option}
 use Rattle.std.specs.declared.result.Result.{Result}
 use Rattle.std.specs.declared.result.Result.the-variants.{Ok}
@@ -17,13 +18,8 @@ use Rattle.journal.specs.Kept.{Well-kept, noted}
 use Rattle.journal.specs.declared.logs.Change.{Change}
 use Rattle.journal.specs.Raised.{raised, raised-fixed, Over}
 
-higher : (h : ℕ) (ps : List Pair) → At-most h ps → At-most (h + 1) ps
-higher h [] a = tt
-higher h (p ∷ ps) a = (omega (arith, a .0), higher h ps (a .1))
-
 all-higher : (h : ℕ) (pss : List (List Pair)) → All (At-most h) pss → All (At-most (h + 1)) pss
-all-higher h [] a = tt
-all-higher h (ps ∷ pss) a = (higher h ps (a .0), all-higher h pss (a .1))
+all-higher h pss a = all-weaker _ _ (λ ps b. all-weaker _ _ (λ (p : Pair) (c : p .height ≤ h). omega (arith, c)) ps b) pss a
 
 -- the changes do not touch the height
 height-noted : (cs : List Change) (l : Log) → noted l cs .height ≡ l .height

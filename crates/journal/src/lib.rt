@@ -5,4 +5,5 @@ mod logs;
 pub use journals::Journal;
 pub use journals::JournalAgenda;
 pub use logs::Change;
+pub use logs::ChangeClone;
 pub use logs::Log;

@@ -149,9 +149,7 @@ pub impl<B: BareHeap> Agenda for Lazy<B> as LazyAgenda {
     fn cancel(&mut self, stamp: u16) -> Result<u8, Refusal> {
         let mark = self.own.mark(stamp);
         if mark == 0 {
-            return Err(Refusal::NotQueued {
-                height: self.own.height,
-            });
+            return Err(self.own.refusal());
         }
         let queue = mark - 1;
         self.own.leave(stamp, queue);

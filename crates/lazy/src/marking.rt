@@ -4,7 +4,9 @@ ghost use mathlib.Core.Bool.{cond};
 ghost use Prim.Native.Nat.{_+_, _-_, _<_, _≤_};
 ghost use lib.Dec.{eqb};
 ghost use lib.ListN.{length, getD, set, replicate};
+ghost use Rattle.stores.specs.declared.refusals.Refusal.the-variants.{NotQueued};
 ghost use Rattle.cancelled.specs.Cancelled.{renamed};
+use stores::Refusal;
 
 // `queue_of` has each stamp's queue plus 1, or 0 when it is in none.
 #[derive(Drop)]
@@ -38,6 +40,15 @@ impl Marks {
             self.queue_of[stamp as usize]
         } else {
             0
+        }
+    }
+
+    // Why a stamp with no mark cannot be cancelled.
+    pub(crate) fn refusal(&self) -> Refusal
+        ensures { λ r. ⌜ r ≡ NotQueued (now (self .entry) .height) ⌝ }
+    {
+        Refusal::NotQueued {
+            height: self.height,
         }
     }
 

@@ -8,6 +8,7 @@ use native.Mathlib.Omega.{arith}
 use lib.Dec.{leb}
 use lib.ListN.{length, getD}
 use Rattle.std.specs.shelf.Lists.{All}
+use Rattle.std.proofs.shelf.Elements.{all-weaker, all-getD}
 use Rattle.std.proofs.shelf.Ways.{tells}
 use Rattle.std.proofs.shelf.Tests.{cond-true, cond-false, cases-bool, lt-leb}
 use Rattle.std.specs.declared.option.Option.{Option}
@@ -42,8 +43,7 @@ reached-at-most h (p ∷ ps) n a =
     elim (leb (p .limit) n) as (λ b. cond b (max (p .height) (reached-height ps n)) (reached-height ps n) ≤ h) [ true ↦ omega arith | false ↦ k ]
 
 higher : (h : ℕ) (ps : List Pair) → At-most h ps → At-most (h + 1) ps
-higher h [] a = tt
-higher h (p ∷ ps) a = (omega (arith, a .0), higher h ps (a .1))
+higher h ps a = all-weaker _ _ (λ (p : Pair) (b : p .height ≤ h). omega (arith, b)) ps a
 
 heights-added : (ls : List ℕ) (h : ℕ) (pss : List (List Pair)) → All (At-most h) pss → All (At-most (h + 1)) (added ls (h + 1) pss)
 unfolding added
@@ -51,11 +51,6 @@ heights-added [] h [] a = tt
 heights-added [] h (ps ∷ pss) a = (higher h ps (a .0), heights-added [] h pss (a .1))
 heights-added (l ∷ ls) h [] a = tt
 heights-added (l ∷ ls) h (ps ∷ pss) a = ((omega arith, higher h ps (a .0)), heights-added ls h pss (a .1))
-
-heights-at : (h : ℕ) (pss : List (List Pair)) (q : ℕ) → All (At-most h) pss → At-most h (getD pss q [])
-heights-at h [] q a = tt
-heights-at h (ps ∷ pss) zero a = a .0
-heights-at h (ps ∷ pss) (suc q) a = heights-at h pss q (a .1)
 
 -- what a count tells of the queue's number
 module _ {T : Type 0} (m : Meaning T) (q : ℕ) where
@@ -109,7 +104,7 @@ module _ {T : Type 0} {le : T → T → Bool} {B : Type 0} (m : Meaning T) (ls :
     pub put-answer-full : b ≡ true → (f : Refusal) → f ≡ AtLimit h → Err f ≡ put-answer (with-limits ls m) q
     put-answer-full e f is =
         let full = at-count true e in
-        let k = reached-at-most (m .fixed .height) (getD (m .fixed .pairs) q []) (count-of (m .state) q) (heights-at (m .fixed .height) (m .fixed .pairs) q (o .formed .heights)) in
+        let k = reached-at-most (m .fixed .height) (getD (m .fixed .pairs) q []) (count-of (m .state) q) (all-getD (At-most (m .fixed .height)) (m .fixed .pairs) q [] (omega (arith, o .formed .limited, counted m q n count .0)) (o .formed .heights)) in
         let top : h ≡ max (m .fixed .height + 1) (reached-height (getD (m .fixed .pairs) q []) (count-of (m .state) q)) = omega (arith, o .above) in
         ap Err is ∙ rw (lt-leb 32 q (counted m q n count .0), here, full) (ap (λ (j : ℕ). Err (AtLimit j)) top)
 

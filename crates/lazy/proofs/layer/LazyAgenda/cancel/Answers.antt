@@ -15,7 +15,7 @@ returns-then-mark-eq0 g c =
     let law = strict _ (g .Item·Ordered·met .laws) in
     record {
       sound = c .pre;
-      effect = cancels-refused (formed-lazily _ _ _ _ (c .pre) law) (c .args .stamp) _ (cancel-none _ _ _ _ (c .pre) (c .args .stamp) (c .mark-mark .result) (c .mark-mark .ensures) (c .if-mark-eq0 .taken));
+      effect = cancels-refused (formed-lazily _ _ _ _ (c .pre) law) (c .args .stamp) _ (cancel-none _ _ _ _ (c .pre) (c .args .stamp) (c .mark-mark .result) (c .mark-mark .ensures) (c .if-mark-eq0 .taken) (c .refusal .result) (c .refusal .ensures));
       refused = refl {a = s};
     }
 

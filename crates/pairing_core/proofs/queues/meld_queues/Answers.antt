@@ -1,6 +1,8 @@
-use mathlib.Core.Path.{refl}
+use mathlib.Core.Path.{refl, ap, _∙_}
 use native.Mathlib.Omega.{arith}
 use Rattle.elements.proofs.Strictness.{strict}
+use Rattle.std.specs.declared.option.Option.the-variants.{None}
+use Rattle.cells.specs.Queues.{with-queue}
 use Rattle.cells.proofs.Melding.{meld-into, meld-from, meld-same, meldable, counts-few, melding}
 use Rattle.pairing_core.specs.Pairing.{pairing}
 use Rattle.pairing_core.proofs.Lawfulness.{lawful}
@@ -51,5 +53,5 @@ returns g c =
     let le = g .T·Ordered .le in
     let fine = lawful le (strict le (g .T·Ordered·met .laws)) in
     let m = c .meld-melded .ensures _ _ (meldable (pairing le) fine (c .pre) (c .args .into) (c .args .from) (c .if-into-ge-QUEUES .left) (c .if-from-ge-QUEUES .left) (c .if-into-from .left)) in
-    let d = melding (pairing le) fine (c .pre) (c .args .into) (c .args .from) (c .if-into-ge-QUEUES .left) (c .if-from-ge-QUEUES .left) (c .if-into-from .left) _ _ (omega (arith, c .meld-melded .kept .links)) m _ _ (c .settle .ensures) (c .settle-2 .ensures) in
+    let d = melding (pairing le) fine (c .pre) (c .args .into) (c .args .from) (c .if-into-ge-QUEUES .left) (c .if-from-ge-QUEUES .left) (c .if-into-from .left) _ _ (omega (arith, c .meld-melded .kept .links)) m _ refl _ (c .settle-2 .ensures ∙ ap (λ h. with-queue h (c .args .from) None 0) (c .settle .ensures)) in
     record { sound = d .sound; effect = d .effect; heads = tt; links = tt }

@@ -12,11 +12,10 @@ use Rattle.stores.specs.declared.refusals.Refusal.{Refusal}
 use Rattle.stores.specs.Meaning.{Meaning}
 use Rattle.stores.specs.Calls.{put-answer, put-after}
 use Rattle.stores.specs.Promises.{Puts}
-use Rattle.dispatch.specs.declared.Rejected.{Rejected}
 use Rattle.dispatch.specs.Dispatching.{after-put, after-puts, Accepted, Admitted, Admits, Served, Dispatched}
 
 module _ {T : Type 0} (le : T → T → Bool) where
-  pub after-puts-push : (m : Meaning T) (xs : List T) (x : T) → after-puts le m (xs ++ x ∷ []) ≡ after-put le (after-puts le m xs) x
+  after-puts-push : (m : Meaning T) (xs : List T) (x : T) → after-puts le m (xs ++ x ∷ []) ≡ after-put le (after-puts le m xs) x
   after-puts-push m [] x = refl
   after-puts-push m (y ∷ xs) x = after-puts-push (after-put le m y) xs x
 

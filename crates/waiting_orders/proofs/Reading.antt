@@ -1,9 +1,9 @@
 -- A line of three numerals in range is the line of an order.
-use mathlib.Core.Path.{_≡_, refl, sym, ap, _∙_}
+use mathlib.Core.Path.{_≡_, sym, ap, _∙_}
 use mathlib.Core.List.{List, [], _∷_, map}
 use Prim.Native.Nat.{ℕ, _≤_}
 use native.Mathlib.Omega.{arith}
-use lib.ListN.{length, getD}
+use lib.ListN.{getD}
 use Rattle.std.specs.Written.{decimal}
 use Rattle.scanner.specs.Numerals.{told}
 use Rattle.scanner.specs.Templates.{fill, Filled}

@@ -52,6 +52,10 @@ module _ {T : Type 0} (le : T → T → Bool) where
     rejected f p e =
         (here, subst (Admitted le m (take i xs)) (sym e) so-far, p .answer ∙ ap (λ q. put-answer q 0) (sym e))
 
+  -- the store that stands for it stayed as it was
+  pub admitted-still : {A : Type 0} (meaning : A → Meaning T) (x y : A) (m : Meaning T) (xs : List T) → y ≡ x → Admitted le m xs (meaning x) → Admitted le m xs (meaning y)
+  admitted-still meaning x y m xs same = subst (λ z. Admitted le m xs (meaning z)) (sym same)
+
   pub dispatched : (m k n : Meaning T) (xs ys : List T) → Admitted le m xs k → Served le k ys n → Dispatched le m xs ys n
   dispatched m k n xs ys a s = record {
     accepted = a .accepted;

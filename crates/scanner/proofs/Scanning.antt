@@ -1,6 +1,6 @@
 -- How far a line is read along a template.
 use mathlib.Core.Path.{_≡_, refl, sym, ap, subst, _∙_}
-use mathlib.Core.Bool.{true, false, _&&_}
+use mathlib.Core.Bool.{true, false}
 use mathlib.Core.List.{List, [], _∷_, _++_, map, append-assoc, append-nil}
 use Prim.Native.Nat.{ℕ, _+_, _≤_, _<_}
 use native.Mathlib.Omega.{arith}
@@ -9,11 +9,11 @@ use Rattle.std.specs.shelf.Lists.{All}
 use Rattle.std.specs.declared.option.Option.the-variants.{Some, None}
 use Rattle.std.proofs.shelf.Elements.{all-push}
 use Rattle.std.proofs.shelf.Lists.{length-push, map-push, take-more-set, take-all, drop-more, drop-all, drop-drop, length-drop}
-use Rattle.std.proofs.shelf.Tests.{cond-true, cond-false, eq-eqb, ne-eqb}
-use Rattle.std.proofs.shelf.Ways.{tells}
+use Rattle.std.proofs.shelf.Tests.{eq-eqb, ne-eqb}
 use Rattle.scanner.specs.Numerals.{Numeral, told, Stop, Found, Begins}
-use Rattle.scanner.specs.Templates.{gap, gaps, fill-gap, fill, Filled, parted, clear, Scans}
+use Rattle.scanner.specs.Templates.{gap, gaps, fill, Filled, clear, Scans}
 use Rattle.scanner.proofs.Digits.{unique}
+use Rattle.scanner.proofs.Filling.{fill-byte, fill-next, gaps-byte, gaps-next, clear-byte, clear-next, stop-fill}
 
 -- `later` is still to come of the template t, and `rest` of the line; k numbers are in ns
 pub record Sofar (t line later rest ns : List ℕ) (k : ℕ) : Type 0 where
@@ -37,33 +37,6 @@ begin t line ns = record {
   built = λ es e. e;
   only = λ c es f. (es, f);
 }
-
--- what the next byte of the template writes
-module _ (c : ℕ) (t : List ℕ) where
-  fill-byte : gap c ≡ false → (ds : List (List ℕ)) → fill (c ∷ t) ds ≡ c ∷ fill t ds
-  fill-byte g ds = cond-false (gap c) (fill-gap (fill t) ds) (c ∷ fill t ds) g
-
-  fill-next : gap c ≡ true → (d : List ℕ) (ds : List (List ℕ)) → fill (c ∷ t) (d ∷ ds) ≡ d ++ fill t ds
-  fill-next g d ds = cond-true (gap c) (d ++ fill t ds) (c ∷ fill t (d ∷ ds)) g
-
-  gaps-byte : gap c ≡ false → gaps (c ∷ t) ≡ gaps t
-  gaps-byte g = cond-false (gap c) (gaps t + 1) (gaps t) g
-
-  gaps-next : gap c ≡ true → gaps (c ∷ t) ≡ gaps t + 1
-  gaps-next g = cond-true (gap c) (gaps t + 1) (gaps t) g
-
-  clear-byte : gap c ≡ false → clear (c ∷ t) ≡ true → clear t ≡ true
-  clear-byte g h = sym (cond-false (gap c) (parted t && clear t) (clear t) g) ∙ h
-
-  clear-next : gap c ≡ true → clear (c ∷ t) ≡ true → (parted t ≡ true) × (clear t ≡ true)
-  clear-next g h = let e : (parted t && clear t) ≡ true = sym (cond-true (gap c) (parted t && clear t) (clear t) g) ∙ h in (grind (arith, tells, e), grind (arith, tells, e))
-
--- where the template goes on with neither digit nor gap, no digit follows
-stop-fill : (t : List ℕ) (ds : List (List ℕ)) → parted t ≡ true → Stop (fill t ds)
-stop-fill [] ds p = tt
-stop-fill (c ∷ t) ds p =
-    let g : gap c ≡ false = grind (arith, tells, p) in
-    subst Stop (sym (fill-byte c t g ds)) (λ d. grind (arith, tells, p, d .0, d .1))
 
 module _ {t line later rest ns : List ℕ} {k : ℕ} (s : Sofar t line later rest ns k) where
   -- a byte that stands as it is

@@ -1,8 +1,12 @@
 // A waiting line as text, an order to a line.
 ghost use mathlib.Core.Path.{_≡_};
-ghost use Prim.Native.Nat.{_+_, _≤_};
+ghost use mathlib.Core.List.{List};
+ghost use Prim.Native.Nat.{ℕ, _+_, _≤_};
 ghost use lib.ListN.{length, drop};
 ghost use Rattle.std.specs.Of.Vec.{vec-items};
+ghost use Rattle.std.specs.declared.result.Result.{Result};
+ghost use Rattle.elements.specs.declared.lines.LineEntry.{LineEntry};
+ghost use Rattle.waiting_orders.specs.declared.Unreadable.{Unreadable};
 ghost use Rattle.std.specs.Results.{Cases as ByOk};
 ghost use Rattle.std.specs.shelf.Lists.{leading};
 ghost use Rattle.waiting_orders.specs.Forms.{Reads, unreadable-number};
@@ -52,6 +56,12 @@ pub fn read_order(line: &[u8]) -> Result<LineEntry, Unreadable>
         due,
     })
 }
+
+// A theorem, with nothing to compute: every line has one reading, so an order is read exactly where the line is written of
+// it with its numbers in range.
+pub fn reading_is_unique()
+    ensures { λ _. ⌜ ((line : List ℕ) (r s : Result LineEntry Unreadable) → Reads line r → Reads line s → r ≡ s) ⌝ }
+{}
 
 // How long the first line of the text is, without its end.
 fn line_length(text: &[u8]) -> usize

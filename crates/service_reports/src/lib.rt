@@ -1,8 +1,12 @@
 // What is printed for a waiting line: the orders as a bench takes them, or what is refused.
+ghost use mathlib.Core.Path.{_≡_};
+ghost use mathlib.Core.List.{List};
+ghost use Prim.Native.Nat.{ℕ};
 ghost use Rattle.std.specs.Of.String.{string-bytes};
 ghost use Rattle.std.specs.Results.{Cases as ByOk};
 ghost use Rattle.std.specs.Vec.{made};
 ghost use Rattle.elements.specs.Elements.{line-le};
+ghost use Rattle.stores.specs.Meaning.{Fixed};
 ghost use Rattle.dispatch.specs.Dispatching.{Unused};
 ghost use Rattle.service_reports.specs.Reports.{Unread, Unserved, Countable, Told, Untold, Shown, Reported, Unreported, Printed};
 
@@ -79,3 +83,9 @@ pub fn report<A: Agenda<Item = LineEntry>>(
         Err(failure) => unread_text(failure, heap),
     }
 }
+
+// A theorem, with nothing to compute: what is printed is settled by the text and by the cells and stamps of an unused store,
+// whatever store it is.
+pub fn report_is_determined()
+    ensures { λ _. ⌜ ((f : Fixed) (text o p : List ℕ) → Printed f text o → Printed f text p → o ≡ p) ⌝ }
+{}

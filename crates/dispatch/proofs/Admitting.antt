@@ -12,11 +12,10 @@ use Rattle.stores.specs.declared.refusals.Refusal.{Refusal}
 use Rattle.stores.specs.Meaning.{Meaning}
 use Rattle.stores.specs.Calls.{put-answer, put-after}
 use Rattle.stores.specs.Promises.{Puts}
-use Rattle.dispatch.specs.declared.Rejected.{Rejected}
 use Rattle.dispatch.specs.Dispatching.{after-put, after-puts, Accepted, Admitted, Admits, Served, Dispatched}
 
 module _ {T : Type 0} (le : T → T → Bool) where
-  pub after-puts-push : (m : Meaning T) (xs : List T) (x : T) → after-puts le m (xs ++ x ∷ []) ≡ after-put le (after-puts le m xs) x
+  after-puts-push : (m : Meaning T) (xs : List T) (x : T) → after-puts le m (xs ++ x ∷ []) ≡ after-put le (after-puts le m xs) x
   after-puts-push m [] x = refl
   after-puts-push m (y ∷ xs) x = after-puts-push (after-put le m y) xs x
 
@@ -52,6 +51,10 @@ module _ {T : Type 0} (le : T → T → Bool) where
     pub rejected : (f : Refusal) → Puts le n 0 (getD xs i d) (Err f) o → o ≡ n → Admits le m xs (Err (record { index = i; refusal = f })) o
     rejected f p e =
         (here, subst (Admitted le m (take i xs)) (sym e) so-far, p .answer ∙ ap (λ q. put-answer q 0) (sym e))
+
+  -- the store that stands for it stayed as it was
+  pub admitted-still : {A : Type 0} (meaning : A → Meaning T) (x y : A) (m : Meaning T) (xs : List T) → y ≡ x → Admitted le m xs (meaning x) → Admitted le m xs (meaning y)
+  admitted-still meaning x y m xs same = subst (λ z. Admitted le m xs (meaning z)) (sym same)
 
   pub dispatched : (m k n : Meaning T) (xs ys : List T) → Admitted le m xs k → Served le k ys n → Dispatched le m xs ys n
   dispatched m k n xs ys a s = record {

@@ -1,19 +1,17 @@
 -- Orders are taken from queue 0, one after another.
-use mathlib.Core.Path.{_≡_, refl, sym, ap, subst, _∙_}
+use mathlib.Core.Path.{_≡_, refl, sym, ap, _∙_}
 use mathlib.Core.Bool.{Bool}
 use mathlib.Core.List.{List, [], _∷_, _++_, append-assoc, append-nil}
 use Prim.Native.Nat.{ℕ, _+_, _≤_, _<_}
 use native.Mathlib.Omega.{arith}
-use lib.ListN.{length, getD, set}
+use lib.ListN.{length, getD}
 use Rattle.std.specs.declared.option.Option.{Option}
 use Rattle.std.specs.declared.option.Option.the-variants.{Some, None}
-use Rattle.std.specs.declared.result.Result.{Result}
-use Rattle.std.specs.declared.result.Result.the-variants.{Ok, Err}
+use Rattle.std.specs.declared.result.Result.the-variants.{Ok}
 use Rattle.std.proofs.shelf.Lists.{getD-set-same, set-set, set-getD}
 use Rattle.elements.specs.declared.entries.Entry.{Entry}
-use Rattle.stores.specs.declared.refusals.Refusal.{Refusal}
 use Rattle.stores.specs.Meaning.{State, Meaning, Well-formed, list-of}
-use Rattle.stores.specs.Calls.{with-list, front, rest, take-after, first-answer}
+use Rattle.stores.specs.Calls.{with-list, front, rest, first-answer}
 use Rattle.stores.specs.Promises.{Takes}
 use Rattle.dispatch.specs.Service.{elements-of}
 use Rattle.dispatch.specs.Dispatching.{Served}

@@ -1,22 +1,21 @@
 -- Insertion sort, and lists numbered by place.
-use mathlib.Core.Path.{_≡_, refl, sym, ap, subst, _∙_}
+use mathlib.Core.Path.{_≡_, refl, sym, ap, _∙_}
 use mathlib.Core.Bool.{Bool, true, false, cond}
-use mathlib.Core.List.{List, [], _∷_, map}
+use mathlib.Core.List.{List, [], _∷_}
 use mathlib.Core.Logic.{_⊎_, inl, inr}
 use Prim.Native.Nat.{ℕ, _+_, _≤_, _<_}
 use native.Mathlib.Omega.{arith}
-use lib.Dec.{eqb}
 use lib.ListN.{length}
-use Rattle.std.specs.shelf.Lists.{All, countBy}
+use Rattle.std.specs.shelf.Lists.{countBy}
 use Rattle.std.proofs.shelf.Elements.{all-weaker}
 use Rattle.std.proofs.shelf.Sums.{sumBy-cons}
-use Rattle.std.proofs.shelf.Tests.{cases-bool, ne-eqb}
+use Rattle.std.proofs.shelf.Tests.{cases-bool}
 use Rattle.std.proofs.shelf.Ways.{tells}
 use Rattle.elements.specs.declared.entries.Entry.{Entry}
 use Rattle.elements.specs.Order.{Laws, Strict, precedes-by, stamp-of}
 use Rattle.elements.specs.Elements.{line-le}
 use Rattle.elements.proofs.Strictness.{strict}
-use Rattle.stores.specs.SortedLists.{merge, insert, tally, Sorted}
+use Rattle.stores.specs.SortedLists.{insert, tally, Sorted}
 use Rattle.stores.proofs.Merging.{take-left, take-right}
 use Rattle.stores.proofs.Inserting.{length-insert, tally-insert, sorted-insert}
 use Rattle.dispatch.specs.Service.{numbered, insertion-sort, Ranked, elements-of, service}
@@ -26,7 +25,7 @@ module _ {A : Type 0} (before : A → A → Bool) where
   length-sort [] = refl
   length-sort (x ∷ xs) = omega (arith, length-insert before x (insertion-sort before xs), length-sort xs)
 
-  pub tally-sort : (key : A → ℕ) (xs : List A) (k : ℕ) → tally key (insertion-sort before xs) k ≡ tally key xs k
+  tally-sort : (key : A → ℕ) (xs : List A) (k : ℕ) → tally key (insertion-sort before xs) k ≡ tally key xs k
   tally-sort key [] k = refl
   tally-sort key (x ∷ xs) k = omega (arith, tally-insert before key x (insertion-sort before xs) k, tally-sort key xs k)
 
@@ -48,13 +47,13 @@ module _ {A : Type 0} (before : A → A → Bool) where
     count-sort (x ∷ xs) = omega (arith, count-insert x (insertion-sort before xs), count-sort xs, sumBy-cons one x xs)
 
   module _ (key : A → ℕ) (law : Strict before key) where
-    pub sorted-sort : (xs : List A) → ((k : ℕ) → tally key xs k ≤ 1) → Sorted before (insertion-sort before xs)
+    sorted-sort : (xs : List A) → ((k : ℕ) → tally key xs k ≤ 1) → Sorted before (insertion-sort before xs)
     sorted-sort [] h = tt
     sorted-sort (x ∷ xs) h =
         sorted-insert before key law x (insertion-sort before xs) (λ k. omega (arith, h k, tally-sort key xs k)) (sorted-sort xs (λ k. omega (arith, h k)))
 
     -- in a sorted list each comes before all that follow it
-    pub ranked-sorted : (xs : List A) → Sorted before xs → Ranked before xs
+    ranked-sorted : (xs : List A) → Sorted before xs → Ranked before xs
     ranked-sorted [] s = tt
     ranked-sorted (x ∷ []) s = (tt, tt)
     ranked-sorted (x ∷ y ∷ ys) s =
@@ -62,7 +61,7 @@ module _ {A : Type 0} (before : A → A → Bool) where
         ((s .0, all-weaker (λ z. before y z ≡ true) (λ z. before x z ≡ true) (λ z h. law .transitive x y z (s .0) h) ys (r .0)), r)
 
 module _ {T : Type 0} where
-  pub elements-numbered : (n : ℕ) (xs : List T) → elements-of (numbered n xs) ≡ xs
+  elements-numbered : (n : ℕ) (xs : List T) → elements-of (numbered n xs) ≡ xs
   elements-numbered n [] = refl
   elements-numbered n (x ∷ xs) = ap (λ ys. x ∷ ys) (elements-numbered (n + 1) xs)
 
@@ -70,17 +69,17 @@ module _ {T : Type 0} where
   length-numbered n [] = refl
   length-numbered n (x ∷ xs) = omega (arith, length-numbered (n + 1) xs)
 
-  pub numbered-from : (n : ℕ) (xs : List T) (k : ℕ) → k < n → tally stamp-of (numbered n xs) k ≡ 0
+  numbered-from : (n : ℕ) (xs : List T) (k : ℕ) → k < n → tally stamp-of (numbered n xs) k ≡ 0
   numbered-from n [] k h = refl
   numbered-from n (x ∷ xs) k h = let i = numbered-from (n + 1) xs k (omega arith) in grind (arith, tells)
 
   -- no two have the same number
-  pub numbered-once : (n : ℕ) (xs : List T) (k : ℕ) → tally stamp-of (numbered n xs) k ≤ 1
+  numbered-once : (n : ℕ) (xs : List T) (k : ℕ) → tally stamp-of (numbered n xs) k ≤ 1
   numbered-once n [] k = omega arith
   numbered-once n (x ∷ xs) k = let i = numbered-once (n + 1) xs k in let j = numbered-from (n + 1) xs k in grind (arith, tells)
 
   -- a test of elements counts the same on the entries
-  pub count-elements : (p : T → Bool) (es : List (Entry T)) → countBy p (elements-of es) ≡ countBy (λ e. p (e .element)) es
+  count-elements : (p : T → Bool) (es : List (Entry T)) → countBy p (elements-of es) ≡ countBy (λ e. p (e .element)) es
   count-elements p [] = refl
   count-elements p (e ∷ es) =
       sumBy-cons (λ x. cond (p x) 1 0) (e .element) (elements-of es)

@@ -6,9 +6,8 @@ use mathlib.Core.Logic.{_⊎_, inl, inr}
 use Prim.Native.Nat.{ℕ, _+_, _≤_, _<_, zero-le}
 use native.Mathlib.Omega.{arith}
 use lib.Dec.{eqb, ltb}
-use lib.ListN.{length, getD, set, take, replicate, length-set}
+use lib.ListN.{length, set, take, length-set}
 use Rattle.std.specs.Results.{isOk}
-use Rattle.std.specs.declared.result.Result.{Result}
 use Rattle.std.specs.declared.result.Result.the-variants.{Ok, Err}
 use Rattle.std.proofs.shelf.Lists.{getD-set-same, set-set, set-getD, length-take-le}
 use Rattle.std.proofs.shelf.Tests.{eqb-true, eqb-false}
@@ -16,16 +15,16 @@ use Rattle.std.proofs.shelf.Ways.{tells}
 use Rattle.elements.specs.declared.entries.Entry.{Entry}
 use Rattle.elements.specs.Order.{Strict, precedes-by, stamp-of}
 use Rattle.stores.specs.declared.refusals.Refusal.{Refusal}
-use Rattle.stores.specs.declared.refusals.Refusal.the-variants.{QueueNumber, SameQueue, AtLimit, NoCell, NoStamp, NotQueued}
+use Rattle.stores.specs.declared.refusals.Refusal.the-variants.{AtLimit, NoCell, NoStamp}
 use Rattle.stores.specs.SortedLists.{merge, insert, tally}
-use Rattle.stores.specs.Meaning.{State, Fixed, Meaning, Well-formed, list-of, live, limits-of, count-of, reached, reached-height, fresh, fresh-bare}
+use Rattle.stores.specs.Meaning.{State, Meaning, Well-formed, list-of, live, limits-of, count-of, reached, reached-height, fresh, fresh-bare}
 use Rattle.stores.specs.Calls.{put-answer, put-after}
 use Rattle.stores.proofs.Merging.{merge-nil, merge-assoc, merge-comm}
 use Rattle.stores.proofs.Inserting.{tally-insert}
 use Rattle.dispatch.specs.declared.Rejected.{Rejected}
 use Rattle.dispatch.specs.Service.{numbered, insertion-sort, service, elements-of}
 use Rattle.dispatch.specs.Dispatching.{after-put, after-puts, Accepted, Admitted, Admits, Served, Unused, Enough, Lacks}
-use Rattle.dispatch.proofs.Sorting.{length-sort, length-numbered, tally-sort, numbered-from}
+use Rattle.dispatch.proofs.Sorting.{length-sort, length-numbered}
 
 -- of the three tests of a put into queue 0, the answer where all of them pass
 passed : (a b c : Bool) (f : Refusal) (n : ℕ) → isOk (cond a (Err f) (cond b (Err NoCell) (cond c (Err NoStamp) (Ok n)))) ≡ true → cond a (Err f) (cond b (Err NoCell) (cond c (Err NoStamp) (Ok n))) ≡ Ok n
@@ -102,7 +101,7 @@ module _ {T : Type 0} (le : T → T → Bool) where
               ∙ ap (set (s .lists) 0) moved
 
     -- accepted orders stand in queue 0, each in its place
-    pub puts-entered : (m : Meaning T) (xs : List T) → 0 < length (m .state .lists) → Stamped (m .state) → Accepted le m xs → after-puts le m xs .state ≡ entered (m .state) xs
+    puts-entered : (m : Meaning T) (xs : List T) → 0 < length (m .state .lists) → Stamped (m .state) → Accepted le m xs → after-puts le m xs .state ≡ entered (m .state) xs
     puts-entered m [] some old a =
         let l : m .state .lists ≡ entered (m .state) [] .lists = sym (ap (set (m .state .lists) 0) (merge-nil before (list-of (m .state) 0)) ∙ set-getD (m .state .lists) 0 []) in
         let n : m .state .next ≡ entered (m .state) [] .next = omega arith in
@@ -154,7 +153,7 @@ module _ {T : Type 0} (le : T → T → Bool) where
     pub served-in-order : (o : Meaning T) (ys : List T) → Served le n ys o → ys ≡ elements-of (service le xs)
     served-in-order o ys s = s .taken ∙ ap (λ u. elements-of (list-of u 0)) state-is
 
-    pub lacks : (f : Refusal) → Err f ≡ put-answer n 0 → Lacks (m .fixed .cells) (m .fixed .stamps) (length xs) f
+    lacks : (f : Refusal) → Err f ≡ put-answer n 0 → Lacks (m .fixed .cells) (m .fixed .stamps) (length xs) f
     lacks f answer =
         go (refused-by (eqb (live (n .state) + n .held) (n .fixed .cells)) (eqb (n .state .next) (n .fixed .stamps)) f (n .state .next)
         (answer ∙ ap (λ b. cond b (Err (AtLimit (reached-height (limits-of (n .fixed) 0) (count-of (n .state) 0)))) (cond (eqb (live (n .state) + n .held) (n .fixed .cells)) (Err NoCell) (cond (eqb (n .state .next) (n .fixed .stamps)) (Err NoStamp) (Ok (n .state .next))))) free))

@@ -1,6 +1,7 @@
 -- Digits in front of what is no digit.
 use mathlib.Core.Path.{_≡_, refl, sym, ap, subst, _∙_}
 use mathlib.Core.List.{List, [], _∷_, _++_, map}
+use mathlib.Core.Logic.{_⊎_, inl, inr}
 use Prim.Native.Nat.{ℕ, _+_, _-_, _*_, _≤_, _<_, _^_, min}
 use native.Mathlib.Omega.{arith}
 use lib.ListN.{length, take, drop, getD, take-append-drop}
@@ -9,8 +10,9 @@ use Rattle.std.specs.Written.{decimal}
 use Rattle.std.specs.shelf.Lists.{All}
 use Rattle.std.proofs.shelf.Elements.{all-more}
 use Rattle.std.proofs.shelf.Lists.{take-more, drop-more, drop-all, length-take-le, getD-take}
+use Rattle.std.proofs.shelf.Tests.{cases-eq}
 use Rattle.std.proofs.shelf.Numerals.{Numerals, numerals-by-fold}
-use Rattle.std.proofs.shelf.Decimals.{decimal-value}
+use Rattle.std.proofs.shelf.Decimals.{decimal-digit, decimal-some, first-decimal, digits-decimal, value-decimal, decimal-value}
 use Rattle.scanner.specs.Numerals.{Digit, Numeral, read-on, value, told, Stop, Found}
 
 read-on-push : (n : ℕ) (xs : List ℕ) (c : ℕ) → read-on n (xs ++ c ∷ []) ≡ read-on n xs * 10 + (c - 48)
@@ -70,6 +72,17 @@ found-by s n e l d v st p f = record {
 
 own : Numerals (All Digit) value
 own = numerals-by-fold (All Digit) (search needs) read-on (search needs)
+
+-- what is printed of a number is a numeral, of that value
+pub printed-numeral : (n : ℕ) → n < 2 ^ 64 → Numeral (decimal n)
+printed-numeral n small = record { digits = digits-decimal own n small; some = decimal-some n small; first = go (cases-eq n 0) }
+  where
+    go : (n ≡ 0) ⊎ (n ≡ 0 → ⊥) → getD (decimal n) 0 0 ≡ 48 → length (decimal n) ≡ 1
+    go (inl e) z = ap (λ m. length (decimal m)) e ∙ ap length (decimal-digit 0 (omega arith))
+    go (inr ne) z = absurd (omega (arith, z, first-decimal n (omega arith) small))
+
+pub printed-value : (n : ℕ) → n < 2 ^ 64 → value (decimal n) ≡ n
+printed-value n small = value-decimal own n small
 
 -- a numeral is what is printed of its value
 numeral-printed : (ds : List ℕ) → Numeral ds → value ds < 2 ^ 64 → ds ≡ decimal (value ds)

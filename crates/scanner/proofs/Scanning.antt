@@ -1,20 +1,19 @@
 -- How far a line is read along a template.
 use mathlib.Core.Path.{_≡_, refl, sym, ap, subst, _∙_}
-use mathlib.Core.Bool.{Bool, true, false, cond, not, _&&_, _||_}
+use mathlib.Core.Bool.{true, false}
 use mathlib.Core.List.{List, [], _∷_, _++_, map, append-assoc, append-nil}
 use Prim.Native.Nat.{ℕ, _+_, _≤_, _<_}
 use native.Mathlib.Omega.{arith}
-use lib.Dec.{leb}
 use lib.ListN.{length, take, drop, getD, set, replicate, length-set, length-replicate, take-append-drop}
 use Rattle.std.specs.shelf.Lists.{All}
 use Rattle.std.specs.declared.option.Option.the-variants.{Some, None}
 use Rattle.std.proofs.shelf.Elements.{all-push}
 use Rattle.std.proofs.shelf.Lists.{length-push, map-push, take-more-set, take-all, drop-more, drop-all, drop-drop, length-drop}
-use Rattle.std.proofs.shelf.Tests.{cond-true, cond-false, eq-eqb, ne-eqb}
-use Rattle.std.proofs.shelf.Ways.{tells}
-use Rattle.scanner.specs.Numerals.{Digit, Numeral, told, Stop, Found, Begins}
-use Rattle.scanner.specs.Templates.{gap, gaps, fill-gap, fill, Filled, parted, clear, Scans}
+use Rattle.std.proofs.shelf.Tests.{eq-eqb, ne-eqb}
+use Rattle.scanner.specs.Numerals.{Numeral, told, Stop, Found, Begins}
+use Rattle.scanner.specs.Templates.{gap, gaps, fill, Filled, clear, Scans}
 use Rattle.scanner.proofs.Digits.{unique}
+use Rattle.scanner.proofs.Filling.{fill-byte, fill-next, gaps-byte, gaps-next, clear-byte, clear-next, stop-fill}
 
 -- `later` is still to come of the template t, and `rest` of the line; k numbers are in ns
 pub record Sofar (t line later rest ns : List ℕ) (k : ℕ) : Type 0 where
@@ -27,7 +26,7 @@ pub record Sofar (t line later rest ns : List ℕ) (k : ℕ) : Type 0 where
   pub built : (es : List (List ℕ)) → rest ≡ fill later es → line ≡ fill t (numerals ++ es)
   pub only : clear t ≡ true → (es : List (List ℕ)) → Filled t line es → (fs : List (List ℕ)) × Filled later rest fs
 
-pub begin : (t line ns : List ℕ) → Sofar t line t line ns 0
+begin : (t line ns : List ℕ) → Sofar t line t line ns 0
 begin t line ns = record {
   numerals = [];
   each = tt;
@@ -39,33 +38,6 @@ begin t line ns = record {
   only = λ c es f. (es, f);
 }
 
--- what the next byte of the template writes
-module _ (c : ℕ) (t : List ℕ) where
-  fill-byte : gap c ≡ false → (ds : List (List ℕ)) → fill (c ∷ t) ds ≡ c ∷ fill t ds
-  fill-byte g ds = cond-false (gap c) (fill-gap (fill t) ds) (c ∷ fill t ds) g
-
-  fill-next : gap c ≡ true → (d : List ℕ) (ds : List (List ℕ)) → fill (c ∷ t) (d ∷ ds) ≡ d ++ fill t ds
-  fill-next g d ds = cond-true (gap c) (d ++ fill t ds) (c ∷ fill t (d ∷ ds)) g
-
-  gaps-byte : gap c ≡ false → gaps (c ∷ t) ≡ gaps t
-  gaps-byte g = cond-false (gap c) (gaps t + 1) (gaps t) g
-
-  gaps-next : gap c ≡ true → gaps (c ∷ t) ≡ gaps t + 1
-  gaps-next g = cond-true (gap c) (gaps t + 1) (gaps t) g
-
-  clear-byte : gap c ≡ false → clear (c ∷ t) ≡ true → clear t ≡ true
-  clear-byte g h = sym (cond-false (gap c) (parted t && clear t) (clear t) g) ∙ h
-
-  clear-next : gap c ≡ true → clear (c ∷ t) ≡ true → (parted t ≡ true) × (clear t ≡ true)
-  clear-next g h = let e : (parted t && clear t) ≡ true = sym (cond-true (gap c) (parted t && clear t) (clear t) g) ∙ h in (grind (arith, tells, e), grind (arith, tells, e))
-
--- where the template goes on with neither digit nor gap, no digit follows
-stop-fill : (t : List ℕ) (ds : List (List ℕ)) → parted t ≡ true → Stop (fill t ds)
-stop-fill [] ds p = tt
-stop-fill (c ∷ t) ds p =
-    let g : gap c ≡ false = grind (arith, tells, p) in
-    subst Stop (sym (fill-byte c t g ds)) (λ d. grind (arith, tells, p, d .0, d .1))
-
 module _ {t line later rest ns : List ℕ} {k : ℕ} (s : Sofar t line later rest ns k) where
   -- a byte that stands as it is
   module _ (c : ℕ) (after : List ℕ) (later-is : later ≡ c ∷ after) (g : gap c ≡ false) where
@@ -73,7 +45,7 @@ module _ {t line later rest ns : List ℕ} {k : ℕ} (s : Sofar t line later res
     fits : (fs : List (List ℕ)) → Filled later rest fs → rest ≡ c ∷ fill after fs
     fits fs f = f .is ∙ ap (λ l. fill l fs) later-is ∙ fill-byte c after g fs
 
-    pub byte-read : (behind : List ℕ) → rest ≡ c ∷ behind → Sofar t line after behind ns k
+    byte-read : (behind : List ℕ) → rest ≡ c ∷ behind → Sofar t line after behind ns k
     byte-read behind rest-is = record {
       numerals = s .numerals;
       each = s .each;
@@ -92,7 +64,7 @@ module _ {t line later rest ns : List ℕ} {k : ℕ} (s : Sofar t line later res
           is = let e = sym rest-is ∙ fits fs f in cc;
         }
 
-    pub byte-missing : ((behind : List ℕ) → rest ≡ c ∷ behind → ⊥) → clear t ≡ true → (es : List (List ℕ)) → Filled t line es → ⊥
+    byte-missing : ((behind : List ℕ) → rest ≡ c ∷ behind → ⊥) → clear t ≡ true → (es : List (List ℕ)) → Filled t line es → ⊥
     byte-missing none h es f = let r = s .only h es f in none (fill after (r .0)) (fits (r .0) (r .1))
 
   -- a gap
@@ -109,7 +81,7 @@ module _ {t line later rest ns : List ℕ} {k : ℕ} (s : Sofar t line later res
       f .is ∙ ap (λ l. fill l (d ∷ gs)) later-is ∙ fill-next c after g d gs,
     )
 
-    pub numeral-read : (n e : ℕ) → k < length ns → Found rest n e → Sofar t line after (drop e rest) (set ns k n) (k + 1)
+    numeral-read : (n e : ℕ) → k < length ns → Found rest n e → Sofar t line after (drop e rest) (set ns k n) (k + 1)
     numeral-read n e room found = record {
       numerals = s .numerals ++ d ∷ [];
       each = all-push Numeral (s .numerals) d (s .each) (found .numeral);
@@ -132,19 +104,19 @@ module _ {t line later rest ns : List ℕ} {k : ℕ} (s : Sofar t line later res
             let u = unique d (p .0) (drop e rest) (fill after (p .1)) (found .numeral .digits) (p .2 .digits) (found .stop) (p .4) (sym split ∙ p .5) in
             (p .1, record { numerals = p .3 .numerals; count = p .3 .count; is = u .1 })
 
-    pub numeral-missing : Begins rest None → clear t ≡ true → (es : List (List ℕ)) → Filled t line es → ⊥
+    numeral-missing : Begins rest None → clear t ≡ true → (es : List (List ℕ)) → Filled t line es → ⊥
     numeral-missing none h es f =
         let r = s .only h es f in
         let p = fits-gap h (r .0) (r .1) in
         none (p .0) (fill after (p .1)) (p .2) (p .4) (p .5)
 
     -- there are more gaps than places for numbers
-    pub room-missing : (n : ℕ) → gaps t ≡ n → n ≤ k → ⊥
+    room-missing : (n : ℕ) → gaps t ≡ n → n ≤ k → ⊥
     room-missing n e l = omega (arith, s .left, ap gaps later-is, gaps-next c after g)
 
   -- the template is at its end
   module _ (done : later ≡ []) where
-    pub line-read : rest ≡ [] → length ns ≡ k → Scans k t line (Some ns)
+    line-read : rest ≡ [] → length ns ≡ k → Scans k t line (Some ns)
     line-read none full = (
       s .numerals,
       record {
@@ -155,10 +127,10 @@ module _ {t line later rest ns : List ℕ} {k : ℕ} (s : Sofar t line later res
       sym (take-all k ns (omega arith)) ∙ s .gives,
     )
 
-    pub line-longer : (rest ≡ [] → ⊥) → clear t ≡ true → (es : List (List ℕ)) → Filled t line es → ⊥
+    line-longer : (rest ≡ [] → ⊥) → clear t ≡ true → (es : List (List ℕ)) → Filled t line es → ⊥
     line-longer some h es f = let r = s .only h es f in some (r .1 .is ∙ ap (λ l. fill l (r .0)) done)
 
-    pub gaps-missing : (n : ℕ) → gaps t ≡ n → (k ≡ n → ⊥) → ⊥
+    gaps-missing : (n : ℕ) → gaps t ≡ n → (k ≡ n → ⊥) → ⊥
     gaps-missing n e ne = ne (omega (arith, s .left, ap gaps done))
 
 -- n places for numbers, k of them written; i bytes of the template and `at` bytes of the line are read

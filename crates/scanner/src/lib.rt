@@ -1,9 +1,11 @@
 // Reads lines that a template writes: bytes that stand as they are, with numerals between them.
 ghost use mathlib.Core.Path.{_≡_};
-ghost use Prim.Native.Nat.{_<_};
+ghost use mathlib.Core.Bool.{true};
+ghost use mathlib.Core.List.{List};
+ghost use Prim.Native.Nat.{ℕ, _<_};
 ghost use lib.ListN.{length, getD};
 ghost use Rattle.std.specs.Orderings.{When};
-ghost use Rattle.scanner.specs.Templates.{Scans};
+ghost use Rattle.scanner.specs.Templates.{Filled, clear, Scans};
 
 mod numerals;
 
@@ -53,3 +55,9 @@ pub fn scan<const N: usize>(line: &[u8], template: &[u8]) -> Option<[u32; N]>
         None
     }
 }
+
+// A theorem, with nothing to compute: a template whose gaps are followed by neither digits nor gaps writes no line with
+// other numerals than those that were read.
+pub fn numerals_are_unique()
+    ensures { λ _. ⌜ ((t line : List ℕ) (ds es : List (List ℕ)) → clear t ≡ true → Filled t line ds → Filled t line es → ds ≡ es) ⌝ }
+{}

@@ -17,7 +17,7 @@ use Rattle.dispatch.specs.declared.Rejected.{Rejected}
 use Rattle.dispatch.specs.declared.Failure.{Failure}
 use Rattle.dispatch.specs.declared.Failure.the-variants.{Refused, NoMemory}
 use Rattle.dispatch.specs.Service.{service-order}
-use Rattle.dispatch.specs.Dispatching.{Admits, Dispatched, Enough, Lacks}
+use Rattle.dispatch.specs.Dispatching.{Admits, Dispatched, Failed, Enough, Lacks}
 use Rattle.service_reports.specs.Texts.{service-text, refused-line, refused-order}
 
 -- the line of the order that is rejected; the first order stands on line 1
@@ -29,16 +29,26 @@ pub data Told (m : Meaning LineEntry) (orders : List LineEntry) (out : List ℕ)
   served : (ys : List LineEntry) → Dispatched line-le m orders ys n → out ≡ service-text ys → Told m orders out n
   rejected : (e : Rejected) → Admits line-le m orders (Err e) n → out ≡ rejection e → Told m orders out n
 
--- by an unused store of these sizes: the orders in their order of service, where there are cells and stamps for all of them
+-- what is left of it where there is no memory to print it
+pub data Untold (m : Meaning LineEntry) (orders : List LineEntry) (n : Meaning LineEntry) : Type 0 where
+  served : (ys : List LineEntry) → Dispatched line-le m orders ys n → Untold m orders n
+  failed : (e : Failure) → Failed line-le m orders e n → Untold m orders n
+
+-- by an unused store of these sizes: the orders in their order of service, where cells and stamps last for them
 pub data Shown (cells stamps : ℕ) (orders : List LineEntry) (out : List ℕ) : Type 0 where
   served : Enough cells stamps (length orders) → out ≡ service-text (service-order orders) → Shown cells stamps orders out
   rejected : (e : Rejected) → e .index < length orders → Lacks cells stamps (e .index) (e .refusal) → out ≡ rejection e → Shown cells stamps orders out
 
--- what is printed of a text, by any store: of the orders that its lines tell; or a line that tells none is refused, and the
--- store is as it was
+-- what is printed of a text, by any store: of the orders that its lines tell; or a line that tells none is refused, and
+-- the store is as it was
 pub data Reported (m : Meaning LineEntry) (text out : List ℕ) (n : Meaning LineEntry) : Type 0 where
   read : (orders : List LineEntry) → Listed (lines-of text) orders → Told m orders out n → Reported m text out n
   unread : (line : ℕ) (why : Unreadable) → Broken (lines-of text) line why → out ≡ refused-line (unreadable-number why) line → n ≡ m → Reported m text out n
+
+-- what is left of it where there is no memory to print it
+pub data Unreported (m : Meaning LineEntry) (text : List ℕ) (n : Meaning LineEntry) : Type 0 where
+  read : (orders : List LineEntry) → Listed (lines-of text) orders → Untold m orders n → Unreported m text n
+  unread : n ≡ m → Unreported m text n
 
 -- by an unused store of these sizes
 pub data Printed (cells stamps : ℕ) (text out : List ℕ) : Type 0 where

@@ -1,9 +1,13 @@
 // What is printed for a waiting line: the orders as a bench takes them, or what is refused.
+ghost use mathlib.Core.Path.{_≡_};
+ghost use mathlib.Core.List.{List};
+ghost use Prim.Native.Nat.{ℕ};
 ghost use Rattle.std.specs.Of.String.{string-bytes};
+ghost use Rattle.std.specs.Results.{Cases as ByOk};
 ghost use Rattle.std.specs.Vec.{made};
 ghost use Rattle.elements.specs.Elements.{line-le};
 ghost use Rattle.dispatch.specs.Dispatching.{Unused};
-ghost use Rattle.service_reports.specs.Reports.{Unread, Unserved, Countable, Told, Shown, Reported, Printed};
+ghost use Rattle.service_reports.specs.Reports.{Unread, Unserved, Countable, Told, Untold, Shown, Reported, Unreported, Printed};
 
 mod texts;
 
@@ -53,7 +57,7 @@ fn orders_text<A: Agenda<Item = LineEntry>>(
 ) -> Result<String, AllocError>
     requires { ⌜ A·Agenda .sound (now line) ⌝ }
     ensures sound { λ _. ⌜ A·Agenda .sound (now (line .exit)) ⌝ }
-    ensures effect { λ r. ⌜ made r (λ s. Told (A·Agenda .meaning (now (line .entry))) (now (orders .entry)) (string-bytes s) (A·Agenda .meaning (now (line .exit)))) ⌝ }
+    ensures effect { λ r. ⌜ ByOk r (λ s. Told (A·Agenda .meaning (now (line .entry))) (now (orders .entry)) (string-bytes s) (A·Agenda .meaning (now (line .exit)))) (λ _. Untold (A·Agenda .meaning (now (line .entry))) (now (orders .entry)) (A·Agenda .meaning (now (line .exit)))) ⌝ }
     ensures unused { λ r. ⌜ (Unused line-le (A·Agenda .meaning (now (line .entry))) → made r (λ s. Shown (A·Agenda .meaning (now (line .entry)) .fixed .cells) (A·Agenda .meaning (now (line .entry)) .fixed .stamps) (now (orders .entry)) (string-bytes s))) ⌝ }
 {
     match order_of_service(line, orders, heap) {
@@ -70,7 +74,7 @@ pub fn report<A: Agenda<Item = LineEntry>>(
 ) -> Result<String, AllocError>
     requires { ⌜ A·Agenda .sound (now line) ⌝ }
     ensures sound { λ _. ⌜ A·Agenda .sound (now (line .exit)) ⌝ }
-    ensures effect { λ r. ⌜ made r (λ s. Reported (A·Agenda .meaning (now (line .entry))) (now (text .entry)) (string-bytes s) (A·Agenda .meaning (now (line .exit)))) ⌝ }
+    ensures effect { λ r. ⌜ ByOk r (λ s. Reported (A·Agenda .meaning (now (line .entry))) (now (text .entry)) (string-bytes s) (A·Agenda .meaning (now (line .exit)))) (λ _. Unreported (A·Agenda .meaning (now (line .entry))) (now (text .entry)) (A·Agenda .meaning (now (line .exit)))) ⌝ }
     ensures unused { λ r. ⌜ (Unused line-le (A·Agenda .meaning (now (line .entry))) → made r (λ s. Printed (A·Agenda .meaning (now (line .entry)) .fixed .cells) (A·Agenda .meaning (now (line .entry)) .fixed .stamps) (now (text .entry)) (string-bytes s))) ⌝ }
 {
     match read_orders(text, heap) {
@@ -78,3 +82,9 @@ pub fn report<A: Agenda<Item = LineEntry>>(
         Err(failure) => unread_text(failure, heap),
     }
 }
+
+// A theorem, with nothing to compute: what is printed is settled by the text and by the cells and stamps of an unused
+// store, whatever store it is.
+pub fn report_is_determined()
+    ensures { λ _. ⌜ ((cells stamps : ℕ) (text o p : List ℕ) → Printed cells stamps text o → Printed cells stamps text p → o ≡ p) ⌝ }
+{}

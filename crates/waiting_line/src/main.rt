@@ -2,7 +2,6 @@
 ghost use Rattle.std.specs.Of.String.{string-bytes};
 ghost use Rattle.std.specs.Vec.{made};
 ghost use Rattle.service_reports.specs.Reports.{Printed};
-use elements::LineEntry;
 use elements::LineEntryOrdered;
 use records::RecordClone;
 use service_reports::report;

@@ -1,17 +1,16 @@
 -- The first line of a text, and the lines that are read so far.
-use mathlib.Core.Path.{_≡_, refl, sym, ap, subst, _∙_}
-use mathlib.Core.Bool.{Bool, true, false, cond, not}
+use mathlib.Core.Path.{_≡_, sym, ap, subst, _∙_}
+use mathlib.Core.Bool.{true, false, not}
 use mathlib.Core.List.{List, [], _∷_, _++_, map, append-assoc, append-nil}
 use mathlib.Core.Logic.{_⊎_, inl, inr}
-use Prim.Native.Nat.{ℕ, suc, _+_, _-_, _≤_, _<_}
+use Prim.Native.Nat.{ℕ, suc, _+_, _≤_, _<_}
 use native.Mathlib.Numerals.{one-add}
 use native.Mathlib.Omega.{arith}
-use lib.Dec.{eqb}
 use lib.ListN.{length, getD, take, drop}
 use Rattle.std.specs.shelf.Lists.{All, leading}
 use Rattle.std.specs.declared.result.Result.the-variants.{Ok, Err}
 use Rattle.std.proofs.shelf.Elements.{all-push}
-use Rattle.std.proofs.shelf.Lists.{drop-more, drop-all, drop-drop, map-push, length-push, length-take-le, take-rest, length-drop}
+use Rattle.std.proofs.shelf.Lists.{drop-more, drop-all, drop-drop, map-push, length-take-le, length-drop}
 use Rattle.std.proofs.shelf.Sums.{leading-drop-yes, leading-drop-no, leading-drop-all, leading-le-length}
 use Rattle.std.proofs.shelf.Tests.{cases-bool, cond-true, cond-false, eq-eqb, ne-eqb}
 use Rattle.elements.specs.declared.lines.LineEntry.{LineEntry}
@@ -63,7 +62,7 @@ lines-parted c (d ∷ cs) = go (cases-bool (inside c)) (lines-parted d cs)
     go (inr a) e = parted-end c (d ∷ cs) a
 
 -- the line that begins at `at`
-pub line-at : (text : List ℕ) (at : ℕ) → at < length text → lines-of (drop at text) ≡ first-line (drop at text) ∷ lines-of (drop (at + (width (drop at text) + 1)) text)
+line-at : (text : List ℕ) (at : ℕ) → at < length text → lines-of (drop at text) ≡ first-line (drop at text) ∷ lines-of (drop (at + (width (drop at text) + 1)) text)
 line-at text at here =
     let e = drop-more text at 0 here in
     ap lines-of e
@@ -84,11 +83,6 @@ module _ (text part : List ℕ) (at n k : ℕ) (part-is : part ≡ drop at text)
 pub record Read (text : List ℕ) (orders : List LineEntry) (at : ℕ) : Type 0 where
   pub is : lines-of text ≡ map written orders ++ lines-of (drop at text)
   pub ranges : All (λ e. In-range (numbers-of e)) orders
-  -- each line has its end
-  pub few : length orders ≤ at
-
-pub read-none : (text : List ℕ) → Read text [] 0
-read-none text = record { is = refl; ranges = tt; few = omega arith }
 
 -- `line` is the line that begins at `at`
 module _ (text line : List ℕ) (orders : List LineEntry) (at : ℕ) (here : at < length text) (so-far : Read text orders at) (line-is : line ≡ first-line (drop at text)) where
@@ -109,7 +103,6 @@ module _ (text line : List ℕ) (orders : List LineEntry) (at : ℕ) (here : at 
             ∙ sym (append-assoc (map written orders) (written e ∷ []) (behind))
             ∙ ap (λ l. l ++ behind) (sym (map-push written orders e));
         ranges = all-push (λ x. In-range (numbers-of x)) orders e (so-far .ranges) (r .1);
-        few = omega (arith, so-far .few, length-push orders e);
       })
 
   pub read-broken : (n : ℕ) (why : Unreadable) → n ≡ length orders + 1 → Reads line (Err why) → Broken (lines-of text) n why

@@ -1,8 +1,7 @@
-use mathlib.Core.Path.{ap, sym, subst}
+use Rattle.std.specs.Of.Vec.{vec-items}
 use Rattle.elements.specs.Elements.{line-le}
 use Rattle.elements.proofs.Strictness.{strict}
-use Rattle.dispatch.specs.Dispatching.{Admitted}
-use Rattle.dispatch.proofs.Admitting.{dispatched}
+use Rattle.dispatch.proofs.Admitting.{admitted-still, dispatched}
 use Rattle.dispatch.proofs.Sorting.{line-laws}
 use Rattle.dispatch.proofs.UnusedStores.{enough, served-in-order, hindered}
 use Rattle.dispatch.proofs.order_of_service.Needs as need
@@ -10,31 +9,34 @@ use Rattle.dispatch.proofs.order_of_service.Needs as need
 pub returns-in-Ok-serve : need.returns-in-Ok-serve
 returns-in-Ok-serve g c =
     let law = strict line-le line-laws in
-    let admitted = c .in-Ok .ensures tt .effect in
-    let served = c .in-Ok-serve .ensures tt .effect in
+    let m = g .A·Agenda .meaning (c .args .line .now) in
+    let k = g .A·Agenda .meaning (c .admit .last .line) in
+    let n = g .A·Agenda .meaning (c .serve .last .line) in
+    let xs = c .args .orders .now in
+    let ys = vec-items (c .in-Ok-serve .served) in
     record {
       sound = c .serve .ensures .sound;
-      effect = dispatched line-le _ _ _ _ _ admitted served;
-      unused = λ u. (enough line-le law _ u _ _ admitted, served-in-order line-le law _ u _ _ admitted _ _ served);
+      effect = dispatched line-le m k n xs ys (c .in-Ok .ensures tt .effect) (c .in-Ok-serve .ensures tt .effect);
+      unused = λ u. (enough line-le law m u xs k (c .in-Ok .ensures tt .effect), served-in-order line-le law m u xs k (c .in-Ok .ensures tt .effect) n ys (c .in-Ok-serve .ensures tt .effect));
     }
 
 pub returns-in-Err-serve : need.returns-in-Err-serve
 returns-in-Err-serve g c =
-    let law = strict line-le line-laws in
-    let admitted = c .in-Ok .ensures tt .effect in
-    let same = ap (g .A·Agenda .meaning) (c .in-Err-serve .ensures tt .effect) in
+    let m = g .A·Agenda .meaning (c .args .line .now) in
+    let k = g .A·Agenda .meaning (c .admit .last .line) in
+    let xs = c .args .orders .now in
     record {
       sound = c .serve .ensures .sound;
-      effect = subst (Admitted line-le _ _) (sym same) admitted;
-      unused = λ u. enough line-le law _ u _ _ admitted;
+      effect = admitted-still line-le (g .A·Agenda .meaning) (c .admit .last .line) (c .serve .last .line) m xs (c .in-Err-serve .ensures tt .effect) (c .in-Ok .ensures tt .effect);
+      unused = λ u. enough line-le (strict line-le line-laws) m u xs k (c .in-Ok .ensures tt .effect);
     }
 
 pub returns-in-Err : need.returns-in-Err
 returns-in-Err g c =
-    let law = strict line-le line-laws in
-    let rejected = c .in-Err .ensures tt .effect in
+    let m = g .A·Agenda .meaning (c .args .line .now) in
+    let n = g .A·Agenda .meaning (c .admit .last .line) in
     record {
       sound = c .admit .ensures .sound;
-      effect = rejected;
-      unused = λ u. hindered line-le law _ u _ _ _ rejected;
+      effect = c .in-Err .ensures tt .effect;
+      unused = λ u. hindered line-le (strict line-le line-laws) m u (c .args .orders .now) n (c .in-Err .rejected) (c .in-Err .ensures tt .effect);
     }

@@ -4,13 +4,11 @@ use Rattle.dispatch.proofs.Serving.{serving-more, one-less, served}
 use Rattle.dispatch.proofs.serve.Needs as need
 
 pub serving-again : need.serving-again
-serving-again g c =
-    let so-far = c .serving .inv .1 in
-    let effect = c .in-Some .ensures tt .effect in (
-      c .take-front .ensures .sound,
-      serving-more line-le _ _ _ _ so-far _ effect _ (c .push-reserved .ensures .items),
-      omega (arith, one-less line-le _ _ _ _ so-far _ effect),
-    )
+serving-again g c = (
+  c .take-front .ensures .sound,
+  serving-more line-le _ _ _ _ (c .serving .inv .1) (c .in-Some .entry) (c .in-Some .ensures tt .effect) _ (c .push-reserved .ensures .items),
+  omega (arith, one-less line-le _ _ _ _ (c .serving .inv .1) (c .in-Some .entry) (c .in-Some .ensures tt .effect)),
+)
 
 pub returns : need.returns
 returns g c = record {

@@ -5,5 +5,4 @@ mod logs;
 pub use journals::Journal;
 pub use journals::JournalAgenda;
 pub use logs::Change;
-pub use logs::ChangeClone;
 pub use logs::Log;

@@ -120,8 +120,8 @@ pub fn service_is_ranked<T: Ordered>()
     ensures { λ _. ⌜ ((xs : List T) → Ranked (precedes-by (T·Ordered .le)) (service (T·Ordered .le) xs)) ⌝ }
 {}
 
-// A theorem, with nothing to compute: everyone is served exactly once. Whatever is asked of an element, or of an element
-// with its place, as many who are served meet it as there are in the list.
+// A theorem, with nothing to compute: everyone is served exactly once. Whatever is asked of an element, or of one with
+// its place, as many who are served meet it as there are in the list.
 pub fn service_is_complete<T: Ordered>()
     ensures elements { λ _. ⌜ ((xs : List T) (p : T → Bool) → countBy p (elements-of (service (T·Ordered .le) xs)) ≡ countBy p xs) ⌝ }
     ensures places { λ _. ⌜ ((xs : List T) (p : Entry T → Bool) → countBy p (service (T·Ordered .le) xs) ≡ countBy p (numbered 0 xs)) ⌝ }

@@ -34,13 +34,13 @@ pub data Untold (m : Meaning LineEntry) (orders : List LineEntry) (n : Meaning L
   served : (ys : List LineEntry) → Dispatched line-le m orders ys n → Untold m orders n
   failed : (e : Failure) → Failed line-le m orders e n → Untold m orders n
 
--- by an unused store of these sizes: the orders in their order of service, where there are cells and stamps for all of them
+-- by an unused store of these sizes: the orders in their order of service, where cells and stamps last for them
 pub data Shown (f : Fixed) (orders : List LineEntry) (out : List ℕ) : Type 0 where
   served : Enough f (length orders) → out ≡ service-text (service-order orders) → Shown f orders out
   rejected : (e : Rejected) → e .index < length orders → Lacks f (e .index) (e .refusal) → out ≡ rejection e → Shown f orders out
 
--- what is printed of a text, by any store: of the orders that its lines tell; or a line that tells none is refused, and the
--- store is as it was
+-- what is printed of a text, by any store: of the orders that its lines tell; or a line that tells none is refused, and
+-- the store is as it was
 pub data Reported (m : Meaning LineEntry) (text out : List ℕ) (n : Meaning LineEntry) : Type 0 where
   read : (orders : List LineEntry) → Listed (lines-of text) orders → Told m orders out n → Reported m text out n
   unread : (line : ℕ) (why : Unreadable) → Broken (lines-of text) line why → out ≡ refused-line (unreadable-number why) line → n ≡ m → Reported m text out n

@@ -84,8 +84,8 @@ pub fn report<A: Agenda<Item = LineEntry>>(
     }
 }
 
-// A theorem, with nothing to compute: what is printed is settled by the text and by the cells and stamps of an unused store,
-// whatever store it is.
+// A theorem, with nothing to compute: what is printed is settled by the text and by the cells and stamps of an unused
+// store, whatever store it is.
 pub fn report_is_determined()
     ensures { λ _. ⌜ ((f : Fixed) (text o p : List ℕ) → Printed f text o → Printed f text p → o ≡ p) ⌝ }
 {}

@@ -30,8 +30,8 @@ In-range (i ∷ u ∷ []) = ⊥
 In-range (i ∷ u ∷ v ∷ []) = (i ≤ 1023) × (u ≤ 9) × (v ≤ 1000000000)
 In-range (i ∷ u ∷ v ∷ x ∷ xs) = ⊥
 
--- read: the line is that of the order, and its numbers are in range. Refused: it has the form with a number out of range, or it
--- has not the form
+-- read: the line is that of the order, and its numbers are in range. Refused: it has the form with a number out of
+-- range, or it has not the form
 abbrev pub Reads : List ℕ → Result LineEntry Unreadable → Type 0
 Reads line (Ok e) = (line ≡ written e) × In-range (numbers-of e)
 Reads line (Err OutOfRange) = (ds : List (List ℕ)) × Filled order-form line ds × (In-range (map value ds) → ⊥)

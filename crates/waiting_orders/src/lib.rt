@@ -4,11 +4,11 @@ ghost use mathlib.Core.List.{List};
 ghost use Prim.Native.Nat.{ℕ, _+_, _≤_};
 ghost use lib.ListN.{length, drop};
 ghost use Rattle.std.specs.Of.Vec.{vec-items};
+ghost use Rattle.std.specs.Results.{Cases as ByOk};
 ghost use Rattle.std.specs.declared.result.Result.{Result};
+ghost use Rattle.std.specs.shelf.Lists.{leading};
 ghost use Rattle.elements.specs.declared.lines.LineEntry.{LineEntry};
 ghost use Rattle.waiting_orders.specs.declared.Unreadable.{Unreadable};
-ghost use Rattle.std.specs.Results.{Cases as ByOk};
-ghost use Rattle.std.specs.shelf.Lists.{leading};
 ghost use Rattle.waiting_orders.specs.Forms.{Reads, unreadable-number};
 ghost use Rattle.waiting_orders.specs.Lines.{inside, first-line, lines-of, Listed, Unlisted};
 use elements::LineEntry;
@@ -57,8 +57,8 @@ pub fn read_order(line: &[u8]) -> Result<LineEntry, Unreadable>
     })
 }
 
-// A theorem, with nothing to compute: every line has one reading, so an order is read exactly where the line is written of
-// it with its numbers in range.
+// A theorem, with nothing to compute: every line has one reading, so an order is read exactly where the line is written
+// of it with its numbers in range.
 pub fn reading_is_unique()
     ensures { λ _. ⌜ ((line : List ℕ) (r s : Result LineEntry Unreadable) → Reads line r → Reads line s → r ≡ s) ⌝ }
 {}
@@ -87,7 +87,7 @@ fn line_from(text: &[u8], at: usize) -> &[u8]
     &rest[0..length]
 }
 
-// Why a text is not read: the line of that number, counted from 1, tells no order, or there is no memory for the orders.
+// Why a text is not read: the line of that number, counted from 1, tells no order, or there is no memory for them.
 #[derive(Clone, Copy)]
 pub enum ReadFailure {
     Line { number: usize, why: Unreadable },

@@ -28,16 +28,13 @@ module _ {K : Type 0} (none : K) (idle : Option ℕ → K) where
   pub idle-none : (ls : List K) (i : ℕ) → i ≡ length ls → Idle-from none idle ls None i
   idle-none ls i e = record { cells = []; chained = tt; at = refl; count = omega (arith, e); above = λ k l. refl; once = λ k. omega arith }
 
-  -- one cell more, in front
-  pub idle-more : (ls : List K) (free : Option ℕ) (i j : ℕ) → i ≡ j + 1 → Idle-from none idle ls free i → Idle-from none idle (set ls j (idle free)) (Some j) j
-  idle-more ls free i j e h = record {
+  -- one cell more, in front: v is what it holds
+  pub idle-more : (ls : List K) (free : Option ℕ) (v : K) → v ≡ idle free → (i j : ℕ) → i ≡ j + 1 → Idle-from none idle ls free i → Idle-from none idle (set ls j v) (Some j) j
+  idle-more ls free v v-is i j e h = record {
     cells = j ∷ h .cells;
-    chained = (omega (arith, long, h .count, e), getD-set-same ls j (idle free) none (omega (arith, h .count, e)) ∙ ap idle (h .at), chain-framed ls (set ls j (idle free)) (h .cells) (omega (arith, long)) (λ k u. getD-set-other ls j k (idle free) none (λ z. omega (arith, u, h .above k (omega (arith, z, e))))) (h .chained));
+    chained = (omega (arith, length-set ls j v, h .count, e), getD-set-same ls j v none (omega (arith, h .count, e)) ∙ v-is ∙ ap idle (h .at), chain-framed ls (set ls j v) (h .cells) (omega (arith, length-set ls j v)) (λ k u. getD-set-other ls j k v none (λ z. omega (arith, u, h .above k (omega (arith, z, e))))) (h .chained));
     at = refl;
-    count = omega (arith, long, h .count, e);
+    count = omega (arith, length-set ls j v, h .count, e);
     above = λ k l. grind (arith, tells, h .above k (omega (arith, e, l)), l);
     once = λ k. grind (arith, tells, h .above k, h .once k, e);
   }
-    where
-      long : length (set ls j (idle free)) ≡ length ls
-      long = length-set ls j (idle free)

@@ -106,18 +106,15 @@ module _ {T K : Type 0} (F : Form T K) (lawful : Lawful F) {h : Heads} {ls : Lis
               lists-are F lawful melded-sound ∙ map-set (F .list) (set (s .trees) a (m .tree)) b leaf ∙ ap (set (map (F .list) (set (s .trees) a (m .tree))) b) (lawful .list-leaf)
               ∙ ap (λ x. set x b []) (map-set (F .list) (s .trees) a (m .tree) ∙ ap (λ x. set x a (F .list (m .tree))) (sym (lists-are F lawful s)) ∙ ap (set (lists F h ls es) a) (m .lists ∙ ap (λ x. merge (precedes-by (F .le)) x (F .list (getD (s .trees) b leaf))) (sym (at-list F lawful s a near-a)) ∙ ap (merge (precedes-by (F .le)) (list-of (state-of F h ls es) a)) (sym (at-list F lawful s b near-b))))
 
-          meld-done : Done F (Melds (F .le) (meaning-of F h ls es) a b (Ok (getD (h .queues) b no-queue .count))) after ls′ es
-          meld-done = record {
+          -- n is the answer and h₂ the heads in the end
+          pub melding : (n : ℕ) → n ≡ getD (h .queues) b no-queue .count → (h₂ : Heads) → h₂ ≡ after → Done F (Melds (F .le) (meaning-of F h ls es) a b (Ok n)) h₂ ls′ es
+          melding n n-is h₂ e = done-by F (Melds (F .le) (meaning-of F h ls es) a b (Ok n)) e refl (record {
             sound = melded-sound;
             effect = record {
-              answer = meld-told (state-of F h ls es) a b (getD (h .queues) b no-queue .count) near-a near-b differ (counted F lawful s b near-b);
+              answer = meld-told (state-of F h ls es) a b n near-a near-b differ (n-is ∙ counted F lawful s b near-b);
               after = λ j. record { lists = melded-lists j; next = h .next };
-              fixed = ap (λ n. bare-fixed n (h .stamps)) long;
+              fixed = ap (λ k. bare-fixed k (h .stamps)) long;
               held = omega arith;
               formed = formed F lawful melded-sound;
             };
-          }
-
-          -- h₁ and h₂ are the heads once the first queue, and then the second, is written
-          pub melding : (h₁ h₂ : Heads) → h₁ ≡ with-queue h a r (getD (h .queues) a no-queue .count + getD (h .queues) b no-queue .count) → h₂ ≡ with-queue h₁ b None 0 → Done F (Melds (F .le) (meaning-of F h ls es) a b (Ok (getD (h .queues) b no-queue .count))) h₂ ls′ es
-          melding h₁ h₂ e f = done-by F (Melds (F .le) (meaning-of F h ls es) a b (Ok (getD (h .queues) b no-queue .count))) (f ∙ ap (λ x. with-queue x b None 0) e) refl meld-done
+          })

@@ -88,11 +88,7 @@ fn run_fresh(
     calls: &[(Call, Answer)],
 ) -> Result<(), Fail> {
     let heap = rt.alloc();
-    let mut links = vec![in heap; Link {
-        left: None,
-        right: None,
-        rank: 0
-    }; cells as usize]?;
+    let mut links = vec![in heap; Link::idle(None); cells as usize]?;
     let mut entries = vec![in heap; Entry {
         element: event(0),
         stamp: 0
@@ -174,11 +170,7 @@ fn melds_of_queues(rt: LibcRuntime) -> Result<(), Fail> {
 
 // Whether a store of so many cells and stamps can be made over two slices of two cells.
 fn two_fit(cells: u16, stamps: u16) -> bool {
-    let links = [Link {
-        left: None,
-        right: None,
-        rank: 0,
-    }; 2];
+    let links = [Link::idle(None); 2];
     let entries = [Entry {
         element: event(0),
         stamp: 0,
@@ -231,11 +223,7 @@ fn empty<S: BareHeap<Item = Event>>(store: &mut S) -> Result<(), Fail>
 #[test]
 fn fills_and_empties_all_cells(rt: LibcRuntime) -> Result<(), Fail> {
     let heap = rt.alloc();
-    let mut links = vec![in heap; Link {
-        left: None,
-        right: None,
-        rank: 0
-    }; 4096]?;
+    let mut links = vec![in heap; Link::idle(None); 4096]?;
     let mut entries = vec![in heap; Entry {
         element: event(0),
         stamp: 0

@@ -45,6 +45,10 @@ link-of c s = record { child = root c; next = root s; degree = trees c }
 abbrev pub no-link : Link
 no-link = record { child = None; next = None; degree = 0 }
 
+-- a root with no children and no siblings
+abbrev pub alone : Link
+alone = record { child = None; next = None; degree = 0 }
+
 -- the same node before other siblings
 abbrev pub before-next : Link → Option ℕ → Link
 before-next k o = record { child = k .child; next = o; degree = k .degree }

@@ -80,12 +80,7 @@ fn agenda_answers<A: Agenda<Item = Event>>(store: &mut A, answers: &mut [Answer]
 
 fn leftist_answers(rt: &LibcRuntime, answers: &mut [Answer]) -> Result<(), Fail> {
     let heap = rt.alloc();
-    let none = leftist::Link {
-        left: None,
-        right: None,
-        rank: 0,
-    };
-    let mut links = vec![in heap; none; CELLS as usize]?;
+    let mut links = vec![in heap; leftist::Link::idle(None); CELLS as usize]?;
     let mut entries = vec![in heap; blank(); CELLS as usize]?;
     if leftist::fits(&links, &entries, CELLS, STAMPS).is_err() {
         return Err(Fail::new("sizes"));
@@ -97,11 +92,7 @@ fn leftist_answers(rt: &LibcRuntime, answers: &mut [Answer]) -> Result<(), Fail>
 
 fn pairing_answers(rt: &LibcRuntime, answers: &mut [Answer]) -> Result<(), Fail> {
     let heap = rt.alloc();
-    let none = pairing::Link {
-        child: None,
-        next: None,
-    };
-    let mut links = vec![in heap; none; CELLS as usize]?;
+    let mut links = vec![in heap; pairing::Link::idle(None); CELLS as usize]?;
     let mut entries = vec![in heap; blank(); CELLS as usize]?;
     if pairing::fits(&links, &entries, CELLS, STAMPS).is_err() {
         return Err(Fail::new("sizes"));
@@ -113,12 +104,7 @@ fn pairing_answers(rt: &LibcRuntime, answers: &mut [Answer]) -> Result<(), Fail>
 
 fn binomial_answers(rt: &LibcRuntime, answers: &mut [Answer]) -> Result<(), Fail> {
     let heap = rt.alloc();
-    let none = binomial::Link {
-        child: None,
-        next: None,
-        degree: 0,
-    };
-    let mut links = vec![in heap; none; CELLS as usize]?;
+    let mut links = vec![in heap; binomial::Link::idle(None); CELLS as usize]?;
     let mut entries = vec![in heap; blank(); CELLS as usize]?;
     if binomial::fits(&links, &entries, CELLS, STAMPS).is_err() {
         return Err(Fail::new("sizes"));

@@ -41,15 +41,16 @@ meld-melded-requires g c κs =
     let le = g .T·Ordered .le in
     (_, _, meldable (binomial le) (lawful le (strict le (g .T·Ordered·met .laws))) (c .pre) (c .args .into) (c .args .from) (c .if-into-ge-QUEUES .left) (c .if-from-ge-QUEUES .left) (c .if-into-from .left))
 
-pub add-kept : need.add-kept
-add-kept g c =
+pub unite-count-requires : need.unite-count-requires
+unite-count-requires g c κs =
     let le = g .T·Ordered .le in
-    omega (arith, counts-few (binomial le) (lawful le (strict le (g .T·Ordered·met .laws))) (c .pre) (c .args .into) (c .args .from) (c .if-into-ge-QUEUES .left) (c .if-from-ge-QUEUES .left) (c .if-into-from .left))
+    let few = counts-few (binomial le) (lawful le (strict le (g .T·Ordered·met .laws))) (c .pre) (c .args .into) (c .args .from) (c .if-into-ge-QUEUES .left) (c .if-from-ge-QUEUES .left) (c .if-into-from .left) in
+    record { into = c .if-into-ge-QUEUES .left; from = c .if-from-ge-QUEUES .left; fits = omega (arith, few) }
 
 pub returns : need.returns
 returns g c =
     let le = g .T·Ordered .le in
     let fine = lawful le (strict le (g .T·Ordered·met .laws)) in
     let m = c .meld-melded .ensures _ _ (meldable (binomial le) fine (c .pre) (c .args .into) (c .args .from) (c .if-into-ge-QUEUES .left) (c .if-from-ge-QUEUES .left) (c .if-into-from .left)) in
-    let d = melding (binomial le) fine (c .pre) (c .args .into) (c .args .from) (c .if-into-ge-QUEUES .left) (c .if-from-ge-QUEUES .left) (c .if-into-from .left) _ _ (omega (arith, c .meld-melded .kept .links)) m _ _ (c .settle .ensures) (c .settle-2 .ensures) in
+    let d = melding (binomial le) fine (c .pre) (c .args .into) (c .args .from) (c .if-into-ge-QUEUES .left) (c .if-from-ge-QUEUES .left) (c .if-into-from .left) _ _ (omega (arith, c .meld-melded .kept .links)) m (c .unite-count .result) (c .unite-count .ensures .answer) _ (c .unite-count .ensures .heads) in
     record { sound = d .sound; effect = d .effect; heads = tt; links = tt }

@@ -2,8 +2,8 @@
 ghost use Prim.Native.Nat.{_≤_};
 ghost use lib.ListN.{length};
 ghost use Rattle.cells.specs.IdleCells.{Idle-from};
-ghost use Rattle.binomial_core.specs.Binomial.{no-link, idle-to};
-use crate::links::Link;
+ghost use Rattle.binomial_trees.specs.Binomial.{no-link, idle-to};
+use binomial_trees::Link;
 
 // Every cell becomes idle and names the next; the answer is the first.
 pub fn make_idle(links: &mut [Link]) -> Option<u16>

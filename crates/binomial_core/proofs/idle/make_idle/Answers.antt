@@ -2,7 +2,7 @@ use mathlib.Core.Path.{refl}
 use native.Mathlib.Omega.{arith}
 use lib.ListN.{length-set}
 use Rattle.cells.proofs.IdleCells.{idle-none, idle-more}
-use Rattle.binomial_core.specs.Binomial.{no-link, idle-to}
+use Rattle.binomial_trees.specs.Binomial.{no-link, idle-to}
 use Rattle.binomial_core.proofs.idle.make_idle.Needs as need
 
 pub loop-i-holds : need.loop-i-holds

@@ -2,8 +2,8 @@ use mathlib.Core.Path.{refl}
 use native.Mathlib.Omega.{arith}
 use Rattle.elements.proofs.Strictness.{strict}
 use Rattle.cells.proofs.Melding.{meld-into, meld-from, meld-same, meldable, counts-few, melding}
-use Rattle.binomial_core.specs.Binomial.{binomial}
-use Rattle.binomial_core.proofs.Lawfulness.{lawful}
+use Rattle.binomial_trees.specs.Binomial.{binomial}
+use Rattle.binomial_trees.proofs.Lawfulness.{lawful}
 use Rattle.binomial_core.proofs.queues.meld_queues.Needs as need
 
 pub returns-then-into-ge-QUEUES : need.returns-then-into-ge-QUEUES

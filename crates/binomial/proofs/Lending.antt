@@ -8,7 +8,7 @@ use Rattle.elements.specs.declared.entries.Entry.{Entry}
 use Rattle.stores.specs.declared.refusals.Refusal.{Refusal}
 use Rattle.stores.specs.Promises.{Unchanged}
 use Rattle.cells.specs.declared.heads.Heads.{Heads}
-use Rattle.binomial_core.specs.declared.links.Link.{Link}
+use Rattle.binomial_trees.specs.declared.links.Link.{Link}
 use Rattle.binomial.specs.declared.store.Binomial.{Binomial}
 
 -- x and y are the slices as they were taken out of the store, x′ and y′ as they were in it

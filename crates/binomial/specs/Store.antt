@@ -3,7 +3,7 @@ use mathlib.Core.Bool.{Bool}
 use denote.Ref.{now}
 use Rattle.stores.specs.Meaning.{Meaning}
 use Rattle.cells.specs.Queues.{Sound, meaning-of}
-use Rattle.binomial_core.specs.Binomial.{binomial}
+use Rattle.binomial_trees.specs.Binomial.{binomial}
 use Rattle.binomial.specs.declared.store.Binomial.{Binomial}
 
 abbrev pub meaning-lent : {T : Type 0} → (T → T → Bool) → Binomial T → Meaning T

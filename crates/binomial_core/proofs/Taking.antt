@@ -29,10 +29,10 @@ use Rattle.forests.specs.Forests.{Any, listed, shaped}
 use Rattle.forests.specs.Parts.{Forest-at}
 use Rattle.forests.proofs.Listing.{leads, list-lone, tally-lone}
 use Rattle.forests.proofs.Parting.{reshaped, beside}
-use Rattle.binomial_core.specs.Binomial.{trees, Falling, Children, Rising, Topped, Least, Taken-out, cells-of, no-link, idle-to, binomial}
-use Rattle.binomial_core.specs.declared.links.Link.{Link}
-use Rattle.binomial_core.proofs.Lawfulness.{laid, lawful}
-use Rattle.binomial_core.proofs.LeastRoot.{least-held}
+use Rattle.binomial_trees.specs.Binomial.{trees, Falling, Children, Rising, Topped, Least, Taken-out, cells-of, no-link, idle-to, binomial}
+use Rattle.binomial_trees.specs.declared.links.Link.{Link}
+use Rattle.binomial_trees.proofs.Lawfulness.{laid, lawful}
+use Rattle.binomial_trees.proofs.LeastRoot.{least-held}
 
 -- the least root is the front of the list
 front-of : {A : Type 0} (before : A → A → Bool) (key : A → ℕ) → Strict before key → (r : ℕ) (x : A) (t : Tree A) → Least before r x t → (out : List A) × (listed before t ≡ x ∷ out)

@@ -2,8 +2,8 @@
 ghost use Prim.Native.Nat.{_≤_};
 ghost use lib.ListN.{length};
 ghost use Rattle.cells.specs.IdleCells.{Idle-from};
-ghost use Rattle.binomial_core.specs.Binomial.{no-link, idle-to};
-use crate::links::Link;
+ghost use Rattle.binomial_trees.specs.Binomial.{no-link, idle-to};
+use binomial_trees::Link;
 
 // Every cell becomes idle and names the next; the answer is the first.
 pub fn make_idle(links: &mut [Link]) -> Option<u16>
@@ -12,11 +12,7 @@ pub fn make_idle(links: &mut [Link]) -> Option<u16>
 {
     let mut free = None;
     for i in (0..links.len()).rev() {
-        links[i] = Link {
-            child: None,
-            next: free,
-            degree: 0,
-        };
+        links[i] = Link::idle(free);
         free = Some(i as u16);
     }
     free

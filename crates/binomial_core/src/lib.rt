@@ -1,18 +1,10 @@
-// Binomial heaps whose nodes are cells of two lent slices, links and entries, for any element type.
+// 32 queues, each a binomial heap in the cells of two lent slices, links and entries, for any element type.
 mod idle;
-mod links;
 mod queues;
-mod roots;
-mod trees;
 
+pub use binomial_trees::Link;
 pub use idle::make_idle;
-pub use links::Link;
 pub use queues::first;
 pub use queues::meld_queues;
 pub use queues::put;
 pub use queues::take;
-pub use roots::least;
-pub use roots::take_out;
-pub use roots::turn_over;
-pub use trees::degrees_are_low;
-pub use trees::meld;

@@ -2,16 +2,16 @@
 ghost use mathlib.Core.Path.{_≡_};
 ghost use Prim.Native.Nat.{_+_, _<_};
 ghost use lib.ListN.{length, getD, set};
-ghost use Rattle.std.specs.declared.option.Option.the-variants.{Some};
+ghost use Rattle.std.specs.declared.option.Option.the-variants.{Some, None};
 ghost use Rattle.stores.specs.Calls.{first-answer};
 ghost use Rattle.stores.specs.Promises.{Puts, Takes, Melds, Unchanged};
-ghost use Rattle.cells.specs.Queues.{Sound, state-of, meaning-of, with-queue, with-idle, placed};
-ghost use Rattle.binomial_core.specs.Binomial.{binomial, no-link, idle-to};
-use crate::links::Link;
-use crate::roots::least;
-use crate::roots::take_out;
-use crate::roots::turn_over;
-use crate::trees::meld;
+ghost use Rattle.cells.specs.Queues.{Sound, no-queue, state-of, meaning-of, with-queue, with-idle, placed};
+ghost use Rattle.binomial_trees.specs.Binomial.{binomial, no-link, alone, idle-to};
+use binomial_trees::Link;
+use binomial_trees::least;
+use binomial_trees::meld;
+use binomial_trees::take_out;
+use binomial_trees::turn_over;
 use cells::Heads;
 use cells::Queue;
 use elements::Entry;
@@ -27,6 +27,21 @@ fn settle(heads: &mut Heads, queue: u8, root: Option<u16>, count: u16)
     heads.queues[queue as usize] = Queue { root, count };
 }
 
+// The queue `into` gets the root, and the count of `from` too, which is the answer; the queue `from` is empty.
+fn unite(heads: &mut Heads, into: u8, from: u8, root: Option<u16>) -> u16
+    requires into { ⌜ into < 32 ⌝ }
+    requires from { ⌜ from < 32 ⌝ }
+    requires fits { ⌜ getD (now heads .queues) into no-queue .count + getD (now heads .queues) from no-queue .count < 65536 ⌝ }
+    ensures answer { λ r. ⌜ r ≡ getD (now (heads .entry) .queues) from no-queue .count ⌝ }
+    ensures heads { λ _. ⌜ now (heads .exit) ≡ with-queue (with-queue (now (heads .entry)) into root (getD (now (heads .entry) .queues) into no-queue .count + getD (now (heads .entry) .queues) from no-queue .count)) from None 0 ⌝ }
+{
+    let moved = heads.queues[from as usize].count;
+    let count = heads.queues[into as usize].count + moved;
+    settle(heads, into, root, count);
+    settle(heads, from, None, 0);
+    moved
+}
+
 // The first idle cell becomes a heap of its own, which holds the element under the next stamp.
 fn occupy<T: Copy>(
     heads: &mut Heads,
@@ -39,17 +54,13 @@ fn occupy<T: Copy>(
     requires entries { ⌜ cell < length (now entries) ⌝ }
     requires stamps { ⌜ now heads .next < 65535 ⌝ }
     ensures heads { λ _. ⌜ now (heads .exit) ≡ with-idle (now (heads .entry)) (getD (now (links .entry)) cell no-link .next) (now (heads .entry) .next + 1) ⌝ }
-    ensures links { λ _. ⌜ now (links .exit) ≡ set (now (links .entry)) cell no-link ⌝ }
+    ensures links { λ _. ⌜ now (links .exit) ≡ set (now (links .entry)) cell alone ⌝ }
     ensures entries { λ _. ⌜ now (entries .exit) ≡ set (now (entries .entry)) cell (record { element = element; stamp = now (heads .entry) .next }) ⌝ }
 {
     let stamp = heads.next;
     heads.free = links[cell as usize].next;
     heads.next = stamp + 1;
-    links[cell as usize] = Link {
-        child: None,
-        next: None,
-        degree: 0,
-    };
+    links[cell as usize] = Link::single();
     entries[cell as usize] = Entry { element, stamp };
 }
 
@@ -59,11 +70,7 @@ fn release(heads: &mut Heads, links: &mut [Link], cell: u16)
     ensures heads { λ _. ⌜ now (heads .exit) ≡ with-idle (now (heads .entry)) (Some cell) (now (heads .entry) .next) ⌝ }
     ensures links { λ _. ⌜ now (links .exit) ≡ set (now (links .entry)) cell (idle-to (now (heads .entry) .free)) ⌝ }
 {
-    links[cell as usize] = Link {
-        child: None,
-        next: heads.free,
-        degree: 0,
-    };
+    links[cell as usize] = Link::idle(heads.free);
     heads.free = Some(cell);
 }
 
@@ -182,10 +189,9 @@ pub fn meld_queues<T: Ordered + Copy>(
     if into == from {
         return Err(Refusal::SameQueue);
     }
-    let kept = heads.queues[into as usize];
-    let moved = heads.queues[from as usize];
-    let melded = meld(links, entries, kept.root, moved.root);
-    settle(heads, into, melded, kept.count + moved.count);
-    settle(heads, from, None, 0);
-    Ok(moved.count)
+    let kept = heads.queues[into as usize].root;
+    let moved = heads.queues[from as usize].root;
+    let melded = meld(links, entries, kept, moved);
+    let count = unite(heads, into, from, melded);
+    Ok(count)
 }

@@ -9,14 +9,9 @@ use pairing::fits;
 use pairing::make;
 use std::test::*;
 
-const NO_LINK: Link = Link {
-    child: None,
-    next: None,
-};
-
 // Whether a store of so many cells and stamps can be made over two slices of two cells.
 fn two_fit(cells: u16, stamps: u16) -> bool {
-    let links = [NO_LINK; 2];
+    let links = [Link::idle(None); 2];
     let entries = [blank(); 2];
     fits(&links, &entries, cells, stamps).is_ok()
 }
@@ -34,7 +29,7 @@ fn sizes_that_fit() -> Result<(), Fail> {
 
 #[test]
 fn equal_elements_come_by_stamp() -> Result<(), Fail> {
-    let mut links = [NO_LINK; 4];
+    let mut links = [Link::idle(None); 4];
     let mut entries = [blank(); 4];
     if fits(&links, &entries, 4, 9).is_err() {
         return Err(Fail::new("sizes"));
@@ -45,7 +40,7 @@ fn equal_elements_come_by_stamp() -> Result<(), Fail> {
 
 #[test]
 fn refusals_in_their_order() -> Result<(), Fail> {
-    let mut links = [NO_LINK; 2];
+    let mut links = [Link::idle(None); 2];
     let mut entries = [blank(); 2];
     if fits(&links, &entries, 2, 2).is_err() {
         return Err(Fail::new("sizes"));
@@ -56,7 +51,7 @@ fn refusals_in_their_order() -> Result<(), Fail> {
 
 #[test]
 fn melds_of_queues() -> Result<(), Fail> {
-    let mut links = [NO_LINK; 4];
+    let mut links = [Link::idle(None); 4];
     let mut entries = [blank(); 4];
     if fits(&links, &entries, 4, 4).is_err() {
         return Err(Fail::new("sizes"));
@@ -68,7 +63,7 @@ fn melds_of_queues() -> Result<(), Fail> {
 #[test]
 fn fills_and_empties_all_cells(rt: LibcRuntime) -> Result<(), Fail> {
     let heap = rt.alloc();
-    let mut links = vec![in heap; NO_LINK; 4096]?;
+    let mut links = vec![in heap; Link::idle(None); 4096]?;
     let mut entries = vec![in heap; blank(); 4096]?;
     if fits(&links, &entries, 4096, 4096).is_err() {
         return Err(Fail::new("sizes"));
@@ -81,7 +76,7 @@ fn fills_and_empties_all_cells(rt: LibcRuntime) -> Result<(), Fail> {
 #[test]
 fn takes_a_root_with_all_others_for_children(rt: LibcRuntime) -> Result<(), Fail> {
     let heap = rt.alloc();
-    let mut links = vec![in heap; NO_LINK; 4096]?;
+    let mut links = vec![in heap; Link::idle(None); 4096]?;
     let mut entries = vec![in heap; blank(); 4096]?;
     if fits(&links, &entries, 4096, 4096).is_err() {
         return Err(Fail::new("sizes"));

@@ -21,6 +21,10 @@ link-of c s = record { child = root c; next = root s }
 abbrev pub no-link : Link
 no-link = record { child = None; next = None }
 
+-- a root with no children and no siblings
+abbrev pub alone : Link
+alone = record { child = None; next = None }
+
 -- the same node before other siblings
 abbrev pub before-next : Link → Option ℕ → Link
 before-next k o = record { child = k .child; next = o }

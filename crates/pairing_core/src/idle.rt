@@ -12,10 +12,7 @@ pub fn make_idle(links: &mut [Link]) -> Option<u16>
 {
     let mut free = None;
     for i in (0..links.len()).rev() {
-        links[i] = Link {
-            child: None,
-            next: free,
-        };
+        links[i] = Link::idle(free);
         free = Some(i as u16);
     }
     free

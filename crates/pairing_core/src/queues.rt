@@ -3,11 +3,11 @@ ghost use mathlib.Core.Path.{_≡_};
 ghost use mathlib.Core.List.{List};
 ghost use Prim.Native.Nat.{_+_, _<_};
 ghost use lib.ListN.{length, getD, set};
-ghost use Rattle.std.specs.declared.option.Option.the-variants.{Some};
+ghost use Rattle.std.specs.declared.option.Option.the-variants.{Some, None};
 ghost use Rattle.stores.specs.Calls.{first-answer};
 ghost use Rattle.stores.specs.Promises.{Puts, Takes, Melds, Unchanged};
-ghost use Rattle.cells.specs.Queues.{Sound, state-of, meaning-of, with-queue, with-idle, placed};
-ghost use Rattle.pairing_core.specs.Pairing.{pairing, no-link, idle-to};
+ghost use Rattle.cells.specs.Queues.{Sound, no-queue, state-of, meaning-of, with-queue, with-idle, placed};
+ghost use Rattle.pairing_core.specs.Pairing.{pairing, no-link, alone, idle-to};
 use crate::links::Link;
 use crate::passes::gather;
 use crate::passes::pair_up;
@@ -27,6 +27,21 @@ fn settle(heads: &mut Heads, queue: u8, root: Option<u16>, count: u16)
     heads.queues[queue as usize] = Queue { root, count };
 }
 
+// The queue `into` gets the root, and the count of `from` too, which is the answer; the queue `from` is empty.
+fn unite(heads: &mut Heads, into: u8, from: u8, root: Option<u16>) -> u16
+    requires into { ⌜ into < 32 ⌝ }
+    requires from { ⌜ from < 32 ⌝ }
+    requires fits { ⌜ getD (now heads .queues) into no-queue .count + getD (now heads .queues) from no-queue .count < 65536 ⌝ }
+    ensures answer { λ r. ⌜ r ≡ getD (now (heads .entry) .queues) from no-queue .count ⌝ }
+    ensures heads { λ _. ⌜ now (heads .exit) ≡ with-queue (with-queue (now (heads .entry)) into root (getD (now (heads .entry) .queues) into no-queue .count + getD (now (heads .entry) .queues) from no-queue .count)) from None 0 ⌝ }
+{
+    let moved = heads.queues[from as usize].count;
+    let count = heads.queues[into as usize].count + moved;
+    settle(heads, into, root, count);
+    settle(heads, from, None, 0);
+    moved
+}
+
 // The first idle cell becomes a heap of its own, which holds the element under the next stamp.
 fn occupy<T: Copy>(
     heads: &mut Heads,
@@ -39,16 +54,13 @@ fn occupy<T: Copy>(
     requires entries { ⌜ cell < length (now entries) ⌝ }
     requires stamps { ⌜ now heads .next < 65535 ⌝ }
     ensures heads { λ _. ⌜ now (heads .exit) ≡ with-idle (now (heads .entry)) (getD (now (links .entry)) cell no-link .next) (now (heads .entry) .next + 1) ⌝ }
-    ensures links { λ _. ⌜ now (links .exit) ≡ set (now (links .entry)) cell no-link ⌝ }
+    ensures links { λ _. ⌜ now (links .exit) ≡ set (now (links .entry)) cell alone ⌝ }
     ensures entries { λ _. ⌜ now (entries .exit) ≡ set (now (entries .entry)) cell (record { element = element; stamp = now (heads .entry) .next }) ⌝ }
 {
     let stamp = heads.next;
     heads.free = links[cell as usize].next;
     heads.next = stamp + 1;
-    links[cell as usize] = Link {
-        child: None,
-        next: None,
-    };
+    links[cell as usize] = Link::single();
     entries[cell as usize] = Entry { element, stamp };
 }
 
@@ -58,10 +70,7 @@ fn release(heads: &mut Heads, links: &mut [Link], cell: u16)
     ensures heads { λ _. ⌜ now (heads .exit) ≡ with-idle (now (heads .entry)) (Some cell) (now (heads .entry) .next) ⌝ }
     ensures links { λ _. ⌜ now (links .exit) ≡ set (now (links .entry)) cell (idle-to (now (heads .entry) .free)) ⌝ }
 {
-    links[cell as usize] = Link {
-        child: None,
-        next: heads.free,
-    };
+    links[cell as usize] = Link::idle(heads.free);
     heads.free = Some(cell);
 }
 
@@ -174,10 +183,9 @@ pub fn meld_queues<T: Ordered + Copy>(
     if into == from {
         return Err(Refusal::SameQueue);
     }
-    let kept = heads.queues[into as usize];
-    let moved = heads.queues[from as usize];
-    let melded = meld(links, entries, kept.root, moved.root);
-    settle(heads, into, melded, kept.count + moved.count);
-    settle(heads, from, None, 0);
-    Ok(moved.count)
+    let kept = heads.queues[into as usize].root;
+    let moved = heads.queues[from as usize].root;
+    let melded = meld(links, entries, kept, moved);
+    let count = unite(heads, into, from, melded);
+    Ok(count)
 }

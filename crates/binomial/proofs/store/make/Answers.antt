@@ -2,8 +2,8 @@ use mathlib.Core.Path.{refl, _∙_}
 use Rattle.elements.proofs.Strictness.{strict}
 use Rattle.cells.proofs.Soundness.{formed}
 use Rattle.cells.proofs.FreshStore.{fresh-store}
-use Rattle.binomial_core.specs.Binomial.{binomial}
-use Rattle.binomial_core.proofs.Lawfulness.{lawful}
+use Rattle.binomial_trees.specs.Binomial.{binomial}
+use Rattle.binomial_trees.proofs.Lawfulness.{lawful}
 use Rattle.binomial.proofs.store.make.Needs as need
 
 pub returns : need.returns

@@ -2,7 +2,7 @@
 use Prim.Native.Nat.{_≤_}
 use lib.ListN.{length}
 use Rattle.cells.specs.IdleCells.{Idle-from}
-use Rattle.binomial_core.specs.Binomial.{no-link, idle-to}
+use Rattle.binomial_trees.specs.Binomial.{no-link, idle-to}
 use Rattle.binomial_core.proofs.idle.make_idle.Given as given
 
 abbrev pub Inv-loop-i : given.InvT-loop-i

@@ -1,8 +1,8 @@
 use native.Mathlib.Omega.{arith}
 use Rattle.elements.proofs.Strictness.{strict}
 use Rattle.cells.proofs.Taking.{first-queue, first-none}
-use Rattle.binomial_core.specs.Binomial.{binomial}
-use Rattle.binomial_core.proofs.Lawfulness.{lawful}
+use Rattle.binomial_trees.specs.Binomial.{binomial}
+use Rattle.binomial_trees.proofs.Lawfulness.{lawful}
 use Rattle.binomial_core.proofs.Taking.{any-roots, least-inside, least-answer}
 use Rattle.binomial_core.proofs.queues.first.Needs as need
 

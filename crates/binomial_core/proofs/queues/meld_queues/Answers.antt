@@ -1,11 +1,9 @@
-use mathlib.Core.Path.{refl, ap, _∙_}
+use mathlib.Core.Path.{refl}
 use native.Mathlib.Omega.{arith}
 use Rattle.elements.proofs.Strictness.{strict}
-use Rattle.std.specs.declared.option.Option.the-variants.{None}
-use Rattle.cells.specs.Queues.{with-queue}
 use Rattle.cells.proofs.Melding.{meld-into, meld-from, meld-same, meldable, counts-few, melding}
-use Rattle.binomial_core.specs.Binomial.{binomial}
-use Rattle.binomial_core.proofs.Lawfulness.{lawful}
+use Rattle.binomial_trees.specs.Binomial.{binomial}
+use Rattle.binomial_trees.proofs.Lawfulness.{lawful}
 use Rattle.binomial_core.proofs.queues.meld_queues.Needs as need
 
 pub returns-then-into-ge-QUEUES : need.returns-then-into-ge-QUEUES
@@ -43,15 +41,16 @@ meld-melded-requires g c κs =
     let le = g .T·Ordered .le in
     (_, _, meldable (binomial le) (lawful le (strict le (g .T·Ordered·met .laws))) (c .pre) (c .args .into) (c .args .from) (c .if-into-ge-QUEUES .left) (c .if-from-ge-QUEUES .left) (c .if-into-from .left))
 
-pub add-kept : need.add-kept
-add-kept g c =
+pub unite-count-requires : need.unite-count-requires
+unite-count-requires g c κs =
     let le = g .T·Ordered .le in
-    omega (arith, counts-few (binomial le) (lawful le (strict le (g .T·Ordered·met .laws))) (c .pre) (c .args .into) (c .args .from) (c .if-into-ge-QUEUES .left) (c .if-from-ge-QUEUES .left) (c .if-into-from .left))
+    let few = counts-few (binomial le) (lawful le (strict le (g .T·Ordered·met .laws))) (c .pre) (c .args .into) (c .args .from) (c .if-into-ge-QUEUES .left) (c .if-from-ge-QUEUES .left) (c .if-into-from .left) in
+    record { into = c .if-into-ge-QUEUES .left; from = c .if-from-ge-QUEUES .left; fits = omega (arith, few) }
 
 pub returns : need.returns
 returns g c =
     let le = g .T·Ordered .le in
     let fine = lawful le (strict le (g .T·Ordered·met .laws)) in
     let m = c .meld-melded .ensures _ _ (meldable (binomial le) fine (c .pre) (c .args .into) (c .args .from) (c .if-into-ge-QUEUES .left) (c .if-from-ge-QUEUES .left) (c .if-into-from .left)) in
-    let d = melding (binomial le) fine (c .pre) (c .args .into) (c .args .from) (c .if-into-ge-QUEUES .left) (c .if-from-ge-QUEUES .left) (c .if-into-from .left) _ _ (omega (arith, c .meld-melded .kept .links)) m _ refl _ (c .settle-2 .ensures ∙ ap (λ h. with-queue h (c .args .from) None 0) (c .settle .ensures)) in
+    let d = melding (binomial le) fine (c .pre) (c .args .into) (c .args .from) (c .if-into-ge-QUEUES .left) (c .if-from-ge-QUEUES .left) (c .if-into-from .left) _ _ (omega (arith, c .meld-melded .kept .links)) m (c .unite-count .result) (c .unite-count .ensures .answer) _ (c .unite-count .ensures .heads) in
     record { sound = d .sound; effect = d .effect; heads = tt; links = tt }

@@ -5,8 +5,8 @@ use Rattle.elements.proofs.Strictness.{strict}
 use Rattle.cells.specs.Queues.{placed}
 use Rattle.cells.proofs.Soundness.{few}
 use Rattle.cells.proofs.Putting.{put-queue, put-cell, put-stamp, put-inside, putting}
-use Rattle.binomial_core.specs.Binomial.{binomial}
-use Rattle.binomial_core.proofs.Lawfulness.{lawful}
+use Rattle.binomial_trees.specs.Binomial.{binomial}
+use Rattle.binomial_trees.proofs.Lawfulness.{lawful}
 use Rattle.binomial_core.proofs.queues.put.Needs as need
 
 pub returns-then-queue-ge-QUEUES : need.returns-then-queue-ge-QUEUES

@@ -2,8 +2,8 @@ use mathlib.Core.Path.{refl}
 use native.Mathlib.Omega.{arith}
 use Rattle.elements.proofs.Strictness.{strict}
 use Rattle.cells.proofs.Taking.{take-queue, take-none}
-use Rattle.binomial_core.specs.Binomial.{binomial}
-use Rattle.binomial_core.proofs.Lawfulness.{lawful}
+use Rattle.binomial_trees.specs.Binomial.{binomial}
+use Rattle.binomial_trees.proofs.Lawfulness.{lawful}
 use Rattle.binomial_core.proofs.Taking.{roots, any-roots, least-inside, least-counted, least-out}
 use Rattle.binomial_core.proofs.queues.take.Needs as need
 

@@ -9,4 +9,4 @@ pub loop-i-holds : need.loop-i-holds
 loop-i-holds c = (c .pre, idle-none no-link idle-to _ _ refl)
 
 pub loop-i-again : need.loop-i-again
-loop-i-again c = (simp length-set (omega (arith, c .loop-i .inv .0)), idle-more no-link idle-to _ _ _ refl (c .loop-i .i) _ (omega (arith, c .loop-i-test .taken)) (c .loop-i .inv .1))
+loop-i-again c = (simp length-set (omega (arith, c .loop-i .inv .0)), idle-more no-link idle-to _ _ _ (c .idle .ensures) (c .loop-i .i) _ (omega (arith, c .loop-i-test .taken)) (c .loop-i .inv .1))

@@ -1,5 +1,5 @@
 use Rattle.cells.proofs.Lending.{sound-out}
-use Rattle.binomial_core.specs.Binomial.{binomial}
+use Rattle.binomial_trees.specs.Binomial.{binomial}
 use Rattle.binomial.proofs.store.Binomial.meld_in_place.Needs as need
 
 pub meld-queues-answer-requires : need.meld-queues-answer-requires

@@ -2,7 +2,7 @@ use mathlib.Core.Path.{ap, _∙_}
 use Rattle.stores.specs.Promises.{Puts}
 use Rattle.cells.specs.Queues.{meaning-of, placed}
 use Rattle.cells.proofs.Lending.{none-placed, sound-out, effect-back}
-use Rattle.binomial_core.specs.Binomial.{binomial}
+use Rattle.binomial_trees.specs.Binomial.{binomial}
 use Rattle.binomial.proofs.Lending.{unchanged-back}
 use Rattle.binomial.proofs.store.Binomial.put_in_place.Needs as need
 

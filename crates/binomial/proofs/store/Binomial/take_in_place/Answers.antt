@@ -1,5 +1,5 @@
 use Rattle.cells.proofs.Lending.{sound-out}
-use Rattle.binomial_core.specs.Binomial.{binomial}
+use Rattle.binomial_trees.specs.Binomial.{binomial}
 use Rattle.binomial.proofs.store.Binomial.take_in_place.Needs as need
 
 pub take-answer-requires : need.take-answer-requires

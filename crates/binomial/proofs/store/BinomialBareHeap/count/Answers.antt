@@ -1,8 +1,8 @@
 use mathlib.Core.Path.{_∙_}
 use Rattle.elements.proofs.Strictness.{strict}
 use Rattle.cells.proofs.Counting.{counting}
-use Rattle.binomial_core.specs.Binomial.{binomial}
-use Rattle.binomial_core.proofs.Lawfulness.{lawful}
+use Rattle.binomial_trees.specs.Binomial.{binomial}
+use Rattle.binomial_trees.proofs.Lawfulness.{lawful}
 use Rattle.binomial.proofs.store.BinomialBareHeap.count.Needs as need
 
 pub returns : need.returns

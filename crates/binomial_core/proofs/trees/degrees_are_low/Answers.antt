@@ -1,5 +1,0 @@
-use Rattle.binomial_core.proofs.Degrees.{degrees-are-low}
-use Rattle.binomial_core.proofs.trees.degrees_are_low.Needs as need
-
-pub returns : need.returns
-returns g c = degrees-are-low

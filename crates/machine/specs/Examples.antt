@@ -8,13 +8,13 @@ use lib.Dec.{eqb}
 use lib.ListN.{replicate, take}
 use Rattle.std.specs.declared.option.Option.{Option}
 use Rattle.std.specs.declared.option.Option.the-variants.{Some, None}
-use Rattle.stores.specs.Meaning.{Pair, Fixed, live}
+use Rattle.stores.specs.Meaning.{Pair, live}
 use Rattle.machine.specs.declared.networks.Order.{Order}
 use Rattle.machine.specs.declared.networks.OrderState.{OrderState}
 use Rattle.machine.specs.declared.networks.OrderState.the-variants.{Away, Withdrawn, Stranded}
 use Rattle.machine.specs.declared.records.StoreName.{StoreName}
 use Rattle.machine.specs.declared.records.StoreName.the-variants.{Events, Orders}
-use Rattle.machine.specs.Machine.{Machine, start-machine}
+use Rattle.machine.specs.Machine.{Bounds, Machine, start-machine}
 use Rattle.machine.specs.Puts.{stopped}
 use Rattle.machine.specs.Script.{perform, text, script-limits}
 
@@ -46,12 +46,12 @@ abbrev pub quota : List ℕ → List (List Pair)
 quota [] = []
 quota (w ∷ ws) = (record { limit = w; height = 2 } ∷ []) ∷ quota ws
 
-abbrev pub fixed : ℕ → List ℕ → Fixed
-fixed s ws = record { cells = 4096; stamps = s; pairs = quota ws; height = 3; cancelling = 1 }
+abbrev pub bounded : ℕ → List ℕ → Bounds
+bounded s ws = record { pairs = quota ws; stamps = s }
 
 -- with so many event stamps, stopped there or not
 abbrev pub first-machine : ℕ → List ℕ → Option ℕ → Machine
-first-machine s bs c = start-machine (fixed s (replicate 32 65535)) (fixed 32768 (script-limits bs)) c
+first-machine s bs c = start-machine (bounded s (replicate 32 65535)) (bounded 32768 (script-limits bs)) c
 
 abbrev pub printed : ℕ → Option ℕ → List ℕ → List ℕ
 printed s c bs = text (perform bs (first-machine s bs c))

@@ -7,7 +7,7 @@ use Rattle.std.specs.declared.option.Option.the-variants.{Some, None}
 use Rattle.elements.specs.declared.events.Event.{Event}
 use Rattle.elements.specs.declared.lines.LineEntry.{LineEntry}
 use Rattle.stores.specs.declared.refusals.Refusal.{Refusal}
-use Rattle.stores.specs.Meaning.{State, Fixed, fresh}
+use Rattle.stores.specs.Meaning.{Pair, State, Fixed, fresh}
 use Rattle.machine.specs.declared.networks.Network.{Network}
 use Rattle.machine.specs.declared.networks.OrderState.{OrderState}
 use Rattle.machine.specs.declared.networks.OrderState.the-variants.{Stranded}
@@ -18,11 +18,20 @@ use Rattle.machine.specs.declared.records.StoreName.{StoreName}
 use Rattle.machine.specs.declared.records.Fault.{Fault}
 use Rattle.machine.specs.Network.{cleared, marked}
 
--- a store as the machine has it: its sorted lists and next stamp, and its limits and stamps. It never looks at the
--- number of cells.
+-- what the machine knows of a store beforehand: each queue's limits, and how many stamps it gives out. There is no bound
+-- on cells.
+pub record Bounds : Type 0 where
+  pub pairs : List (List Pair)
+  pub stamps : ℕ
+
+abbrev pub bounds-of : Fixed → Bounds
+bounds-of f = record { pairs = f .pairs; stamps = f .stamps }
+
+-- a store as the machine has it
 pub record Store (T : Type 0) : Type 0 where
+  -- the sorted lists and the next stamp
   pub state : State T
-  pub fixed : Fixed
+  pub bounds : Bounds
   -- how many entries were taken from it; only what is claimed of cells looks at this
   pub taken : ℕ
 
@@ -43,11 +52,11 @@ pub record Machine : Type 0 where
   -- left. With none it is never stopped, and is the machine of the rules.
   pub cut : Option ℕ
 
-abbrev pub unused : {T : Type 0} → Fixed → Store T
-unused f = record { state = fresh; fixed = f; taken = 0 }
+abbrev pub unused : {T : Type 0} → Bounds → Store T
+unused b = record { state = fresh; bounds = b; taken = 0 }
 
 -- at first: both stores with nothing put, no form taken
-abbrev pub start-machine : Fixed → Fixed → Option ℕ → Machine
+abbrev pub start-machine : Bounds → Bounds → Option ℕ → Machine
 start-machine events lines c = record { instant = 0; end = None; network = cleared; events = unused events; lines = unused lines; records = []; refusal = None; fault = None; cut = c }
 
 abbrev pub with-cut : Machine → Option ℕ → Machine
@@ -92,11 +101,11 @@ strand i m = mark i Stranded m
 
 -- a store with other lists
 abbrev pub listed : {T : Type 0} → Store T → State T → Store T
-listed s x = record { state = x; fixed = s .fixed; taken = s .taken }
+listed s x = record { state = x; bounds = s .bounds; taken = s .taken }
 
 -- one entry fewer, which was taken
 abbrev pub less-one : {T : Type 0} → Store T → State T → Store T
-less-one s x = record { state = x; fixed = s .fixed; taken = s .taken + 1 }
+less-one s x = record { state = x; bounds = s .bounds; taken = s .taken + 1 }
 
 abbrev pub is-some : {X : Type 0} → Option X → Bool
 is-some None = false

@@ -1,8 +1,10 @@
 -- A put, as the machine makes it: refused for the queue's number, its limits, a stop, or the stamps; else the entry
 -- enters its list.
 use mathlib.Core.Bool.{Bool, true, false}
+use mathlib.Core.List.{List, []}
 use Prim.Native.Nat.{ℕ, zero, suc}
 use lib.Dec.{leb, eqb}
+use lib.ListN.{getD}
 use Rattle.std.specs.declared.option.Option.{Option}
 use Rattle.std.specs.declared.option.Option.the-variants.{Some, None}
 use Rattle.std.specs.declared.result.Result.{Result}
@@ -12,7 +14,7 @@ use Rattle.elements.specs.declared.lines.LineEntry.{LineEntry}
 use Rattle.elements.specs.Elements.{event-le, line-le}
 use Rattle.stores.specs.declared.refusals.Refusal.{Refusal}
 use Rattle.stores.specs.declared.refusals.Refusal.the-variants.{QueueNumber, SameQueue, AtLimit, NoCell, NoStamp, NotQueued}
-use Rattle.stores.specs.Meaning.{State, count-of, limits-of, reached, reached-height}
+use Rattle.stores.specs.Meaning.{Pair, State, count-of, reached, reached-height}
 use Rattle.stores.specs.Calls.{put-after}
 use Rattle.machine.specs.declared.forms.FormRefusal.{FormRefusal}
 use Rattle.machine.specs.declared.forms.FormRefusal.the-variants.{OutOfRange, OutOfPlace, Undeclared, Store as store-refused}
@@ -21,7 +23,11 @@ use Rattle.machine.specs.declared.forms.ScriptRefusal.the-variants.{TooLong, M
 use Rattle.machine.specs.declared.records.StoreName.{StoreName}
 use Rattle.machine.specs.declared.records.StoreName.the-variants.{Events}
 use Rattle.machine.specs.declared.records.Fault.{Fault}
-use Rattle.machine.specs.Machine.{Store, Machine, with-cut, with-events, with-lines, listed}
+use Rattle.machine.specs.Machine.{Bounds, Store, Machine, with-cut, with-events, with-lines, listed}
+
+-- the limits of queue q
+abbrev pub bound-at : Bounds → ℕ → List Pair
+bound-at b q = getD (b .pairs) q []
 
 -- what a put answers, what it leaves, and how many puts may follow
 pub record Tried (T : Type 0) : Type 0 where
@@ -51,7 +57,7 @@ module _ {T : Type 0} (le : T → T → Bool) where
   tried-by false false spent h c s q x = celled c spent s q x
 
   abbrev pub try : Option ℕ → Store T → ℕ → T → Tried T
-  try c b q x = tried-by (leb 32 q) (reached (limits-of (b .fixed) q) (count-of (b .state) q)) (eqb (b .state .next) (b .fixed .stamps)) (reached-height (limits-of (b .fixed) q) (count-of (b .state) q)) c (b .state) q x
+  try c s q x = tried-by (leb 32 q) (reached (bound-at (s .bounds) q) (count-of (s .state) q)) (eqb (s .state .next) (s .bounds .stamps)) (reached-height (bound-at (s .bounds) q) (count-of (s .state) q)) c (s .state) q x
 
 -- what follows a put
 abbrev pub Continuation : Type 0

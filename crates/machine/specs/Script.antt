@@ -6,7 +6,6 @@ use lib.Dec.{ltb, eqb}
 use lib.ListN.{length, set, replicate}
 use Rattle.std.specs.declared.option.Option.{Option}
 use Rattle.std.specs.declared.option.Option.the-variants.{Some, None}
-use Rattle.stores.specs.Meaning.{Fixed}
 use Rattle.stores.specs.Refusals.{height-of}
 use Rattle.machine.specs.declared.forms.Form.{Form}
 use Rattle.machine.specs.declared.forms.Form.the-variants.{Station, Order, Withdraw, Close, End}
@@ -15,7 +14,7 @@ use Rattle.machine.specs.declared.forms.FormRefusal.the-variants.{OutOfRange, 
 use Rattle.machine.specs.declared.forms.ScriptRefusal.{ScriptRefusal}
 use Rattle.machine.specs.declared.forms.ScriptRefusal.the-variants.{TooLong, Malformed, Form as form-refused}
 use Rattle.machine.specs.declared.records.Fault.{Fault}
-use Rattle.machine.specs.Machine.{Machine, start-machine, refuse}
+use Rattle.machine.specs.Machine.{Bounds, Machine, start-machine, refuse}
 use Rattle.machine.specs.Step.{steps}
 use Rattle.machine.specs.Forms.{form, form-number, in-range}
 use Rattle.machine.specs.Closing.{totals}
@@ -85,7 +84,7 @@ read-script bs m = read-by (ltb 65536 (length bs)) bs m
 -- stamps, so that as many steps are enough.
 
 abbrev pub run-by : Option ScriptRefusal → Machine → Machine
-run-by None m = steps (m .events .fixed .stamps) m
+run-by None m = steps (m .events .bounds .stamps) m
 run-by (Some r) m = m
 
 abbrev pub run : Machine → Machine
@@ -115,7 +114,7 @@ abbrev pub text : Machine × ℕ → List ℕ
 text r = text-by (r .0 .refusal) (r .1) (r .0)
 
 -- what is printed of a script, over stores with these limits and stamps, by a machine that is stopped there or not
-abbrev pub trace : Fixed → Fixed → Option ℕ → List ℕ → List ℕ
+abbrev pub trace : Bounds → Bounds → Option ℕ → List ℕ → List ℕ
 trace events lines c bs = text (perform bs (start-machine events lines c))
 
 -- The limits of the order store: each station's own for its line, 65,535 elsewhere.

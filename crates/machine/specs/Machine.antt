@@ -88,9 +88,9 @@ refuse r m = with-refusal m (Some r)
 abbrev pub tell : RecordKind → Machine → Machine
 tell x m = record { instant = m .instant; end = m .end; network = m .network; events = m .events; lines = m .lines; records = m .records ++ (record { at = m .instant; kind = x } ∷ []); refusal = m .refusal; fault = m .fault; cut = m .cut }
 
--- a refused put ends the run
+-- a refused put ends the run: the step is not refused, it tells the fault
 abbrev pub fail : Refusal → StoreName → Machine → Machine
-fail f s m = record { instant = m .instant; end = m .end; network = m .network; events = m .events; lines = m .lines; records = m .records; refusal = m .refusal; fault = Some (record { refusal = f; store = s; instant = m .instant }); cut = m .cut }
+fail f s m = record { instant = m .instant; end = m .end; network = m .network; events = m .events; lines = m .lines; records = m .records; refusal = None; fault = Some (record { refusal = f; store = s; instant = m .instant }); cut = m .cut }
 
 abbrev pub mark : ℕ → OrderState → Machine → Machine
 mark i st m = with-network m (marked i st (m .network))

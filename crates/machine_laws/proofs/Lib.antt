@@ -1,0 +1,4 @@
+pub mod Adding
+pub mod Walks
+pub mod Stopping
+pub mod StoppedCalls

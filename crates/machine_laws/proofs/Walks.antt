@@ -1,0 +1,146 @@
+-- What holds over every elementary change holds over every part of a step.
+use mathlib.Core.Bool.{Bool, true, false}
+use Prim.Native.Nat.{ℕ, zero, suc}
+use Rattle.std.specs.declared.option.Option.{Option}
+use Rattle.std.specs.declared.option.Option.the-variants.{Some, None}
+use Rattle.std.specs.declared.result.Result.{Result}
+use Rattle.std.specs.declared.result.Result.the-variants.{Ok, Err}
+use Rattle.elements.specs.declared.events.Event.{Event}
+use Rattle.elements.specs.declared.events.EventKind.{EventKind}
+use Rattle.elements.specs.declared.events.EventKind.the-variants.{Arrive, Finish as Finishing, Withdraw, Close as Closing}
+use Rattle.elements.specs.declared.lines.LineEntry.{LineEntry}
+use Rattle.elements.specs.declared.entries.Entry.{Entry}
+use Rattle.elements.specs.Elements.{event-le, line-le}
+use Rattle.stores.specs.declared.refusals.Refusal.{Refusal}
+use Rattle.stores.specs.Meaning.{State}
+use Rattle.machine.specs.declared.networks.Network.{Network}
+use Rattle.machine.specs.declared.networks.OrderState.{OrderState}
+use Rattle.machine.specs.declared.networks.OrderState.the-variants.{NotYet, Waiting, InService, Done as is-done, Away as is-away, Withdrawn as is-withdrawn, Stranded}
+use Rattle.machine.specs.declared.records.RecordKind.{RecordKind}
+use Rattle.machine.specs.declared.records.StoreName.{StoreName}
+use Rattle.machine.specs.Network.{station, order, has-free, open-station}
+use Rattle.machine.specs.Machine.{Store, Machine, listed, with-cut, with-network, with-events, with-lines, tell, fail, mark, strand, seq-by, branch, halted, as-is}
+use Rattle.machine.specs.Puts.{Continuation, try, put-event, put-line}
+use Rattle.machine.specs.Step.{started, start, at-limit, turned-away, waited, wait, its-entry, finish-event, enter-by, enter, line, take-line, start-by, start-front, free-bench, release, leave-by, leave, finish, cancel-line, cancel-event, withdraw-by, withdraw, fill-by, fill-one, fill, stays-open, close-into, close-by, close, react}
+
+pub record Closed (P : Machine → Machine → Type 0) : Type 0 where
+  pub same : (m : Machine) → P m m
+  pub then : (m v w : Machine) → P m v → P v w → P m w
+  pub told : (x : RecordKind) (m : Machine) → P m (tell x m)
+  pub network : (n : Network) (m : Machine) → P m (with-network m n)
+  pub events : (s : State Event) (m : Machine) → P m (with-events m (listed (m .events) s))
+  pub lines : (s : Store LineEntry) (m : Machine) → P m (with-lines m s)
+  pub cut : (c : Option ℕ) (m : Machine) → P m (with-cut m c)
+  pub failed : (f : Refusal) (s : StoreName) (m : Machine) → P m (fail f s m)
+
+module _ (P : Machine → Machine → Type 0) (closed : Closed P) where
+  pub put-event-walks : (x : Machine → Event) (then : Continuation) → ((o : Result ℕ Refusal) (v : Machine) → P v (then o v)) → (m : Machine) → P m (put-event x then m)
+  put-event-walks x then h m =
+      let t = try event-le (m .cut) (m .events) 0 (x m) in
+      let u = with-events m (listed (m .events) (t .state)) in
+      let v = with-cut u (t .cut) in
+      closed .then m v (then (t .answer) v) (closed .then m u v (closed .events (t .state) m) (closed .cut (t .cut) u)) (h (t .answer) v)
+
+  pub put-line-walks : (q : ℕ) (x : Machine → LineEntry) (then : Continuation) → ((o : Result ℕ Refusal) (v : Machine) → P v (then o v)) → (m : Machine) → P m (put-line q x then m)
+  put-line-walks q x then h m =
+      let t = try line-le (m .cut) (m .lines) q (x m) in
+      let u = with-lines m (listed (m .lines) (t .state)) in
+      let v = with-cut u (t .cut) in
+      closed .then m v (then (t .answer) v) (closed .then m u v (closed .lines (listed (m .lines) (t .state)) m) (closed .cut (t .cut) u)) (h (t .answer) v)
+
+  pub strand-walks : (i : ℕ) (m : Machine) → P m (strand i m)
+  strand-walks i m = closed .network _ m
+
+  pub started-walks : (i k : ℕ) (o : Result ℕ Refusal) (m : Machine) → P m (started i k o m)
+  started-walks i k (Ok n) m = closed .then m _ _ (closed .network _ m) (closed .told _ _)
+  started-walks i k (Err f) m = closed .then m _ _ (closed .failed f _ m) (strand-walks i _)
+
+  pub start-walks : (i k : ℕ) (m : Machine) → P m (start i k m)
+  start-walks i k m = put-event-walks (finish-event i k) (started i k) (started-walks i k) m
+
+  pub away-walks : (b : Bool) (i k : ℕ) (f : Refusal) (m : Machine) → P m (turned-away b i k f m)
+  away-walks true i k f m = closed .then m _ _ (closed .network _ m) (closed .told _ _)
+  away-walks false i k f m = closed .then m _ _ (closed .failed f _ m) (strand-walks i _)
+
+  pub waited-walks : (i k : ℕ) (o : Result ℕ Refusal) (m : Machine) → P m (waited i k o m)
+  waited-walks i k (Ok n) m = closed .then m _ _ (closed .network _ m) (closed .told _ _)
+  waited-walks i k (Err f) m = away-walks (at-limit f) i k f m
+
+  pub wait-walks : (i k : ℕ) (m : Machine) → P m (wait i k m)
+  wait-walks i k m = put-line-walks k (its-entry i) (waited i k) (waited-walks i k) m
+
+  pub enter-walks : (i k : ℕ) (m : Machine) → P m (enter i k m)
+  enter-walks i k m = go (has-free (m .network) (open-station (m .network) k)) (open-station (m .network) k)
+    where
+      go : (b : Bool) (r : ℕ) → P m (enter-by b i r m)
+      go true r = start-walks i r m
+      go false r = wait-walks i r m
+
+  pub front-walks : (k : ℕ) (m : Machine) → P m (start-front k m)
+  front-walks k m = go (line m k)
+    where
+      go : (o : Option (Entry LineEntry)) → P m (start-by o k m)
+      go None = closed .same m
+      go (Some e) = closed .then m _ _ (closed .lines _ m) (start-walks (e .element .order) k (take-line k m))
+
+  pub leave-walks : (i k : ℕ) (m : Machine) → P m (leave i k m)
+  leave-walks i k m = go (station (m .network) k .next)
+    where
+      go : (o : Option ℕ) → P m (leave-by o i m)
+      go None = closed .then m _ _ (closed .network _ m) (closed .told _ _)
+      go (Some j) = enter-walks i j m
+
+  pub release-walks : (i k : ℕ) (m : Machine) → P m (release i k m)
+  release-walks i k m = closed .then m _ _ (closed .then m _ _ (closed .told _ m) (closed .network _ _)) (front-walks k _)
+
+  pub both-walk : (ends : Machine → Bool) (f g h : Machine → Machine) → ((m : Machine) → P m (f m)) → ((m : Machine) → P m (g m)) → ((m : Machine) → P m (h m)) → (m : Machine) → P m (seq-by ends f g h m)
+  both-walk ends f g h pf pg ph m = closed .then m (f m) _ (pf m) (go (ends (f m)))
+    where
+      go : (b : Bool) → P (f m) (branch b g h (f m))
+      go false = pg (f m)
+      go true = ph (f m)
+
+  pub finish-walks : (i k : ℕ) (m : Machine) → P m (finish i k m)
+  finish-walks i k m = both-walk halted (release i k) (leave i k) (strand i) (release-walks i k) (leave-walks i k) (strand-walks i) m
+
+  pub withdraw-walks : (i : ℕ) (m : Machine) → P m (withdraw i m)
+  withdraw-walks i m = go (order (m .network) i .state)
+    where
+      go : (st : OrderState) → P m (withdraw-by st i m)
+      go NotYet = closed .told _ m
+      go (Waiting s) = closed .then m _ _ (closed .then m _ _ (closed .lines _ m) (closed .network _ (cancel-line s m))) (closed .told _ _)
+      go (InService k s) =
+          let a = cancel-event s m in
+          let b = mark i is-withdrawn a in
+          let d = free-bench k b in
+          closed .then m _ _ (closed .then m d _ (closed .then m b d (closed .then m a b (closed .events _ m) (closed .network _ a)) (closed .network _ b)) (closed .told _ d)) (front-walks k _)
+      go is-done = closed .told _ m
+      go is-away = closed .told _ m
+      go is-withdrawn = closed .told _ m
+      go Stranded = closed .told _ m
+
+  pub fill-one-walks : (j : ℕ) (m : Machine) → P m (fill-one j m)
+  fill-one-walks j m = go (has-free (m .network) j)
+    where
+      go : (b : Bool) → P m (fill-by b j m)
+      go true = front-walks j m
+      go false = closed .same m
+
+  pub fill-walks : (n j : ℕ) (m : Machine) → P m (fill n j m)
+  fill-walks zero j m = closed .same m
+  fill-walks (suc n) j m = both-walk halted (fill n j) (fill-one j) as-is (fill-walks n j) (fill-one-walks j) (closed .same) m
+
+  pub close-walks : (k j : ℕ) (m : Machine) → P m (close k j m)
+  close-walks k j m = go (stays-open k j (m .network))
+    where
+      go : (b : Bool) → P m (close-by b k j m)
+      go true = closed .told _ m
+      go false =
+          let a = with-network m _ in
+          closed .then m _ _ (closed .then m _ _ (closed .then m a _ (closed .network _ m) (closed .lines _ a)) (closed .told _ _)) (fill-walks 8 j (close-into k j m))
+
+  pub react-walks : (x : EventKind) (m : Machine) → P m (react x m)
+  react-walks (Arrive i k) m = enter-walks i k m
+  react-walks (Finishing i k) m = finish-walks i k m
+  react-walks (Withdraw i) m = withdraw-walks i m
+  react-walks (Closing k j) m = close-walks k j m

@@ -1,0 +1,13 @@
+// Theorems about every run of the machine. The functions compute nothing: each stands for the theorem in its contract.
+ghost use Rattle.machine_laws.specs.Records.{Few-records};
+ghost use Rattle.machine_laws.specs.Stops.{Stopped-alike};
+
+// A step makes at most 9 records, after those that there are.
+pub fn steps_make_few_records()
+    ensures { λ _. ⌜ Few-records ⌝ }
+{}
+
+// Stopped at a put, the machine is the unstopped one up to that put, in one call and in a list of calls.
+pub fn stopped_is_unstopped_before()
+    ensures { λ _. ⌜ Stopped-alike ⌝ }
+{}

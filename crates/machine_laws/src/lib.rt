@@ -1,0 +1,5 @@
+// The laws of the sorted-list machine over whole runs.
+mod laws;
+
+pub use laws::steps_make_few_records;
+pub use laws::stopped_is_unstopped_before;

@@ -227,7 +227,7 @@ ordered-tells i o = record { cut = cut-by; stop = λ m. refl; records = λ m. re
     cut-by (Err f) m c = refl
 
     extends-by : (r : Result ℕ Refusal) (m : Machine) → Extends m (ordered i o r m)
-    extends-by (Ok n) m = extends .network _ m
+    extends-by (Ok n) m = kept m _ refl refl refl
     extends-by (Err f) m = kept m _ refl refl refl
 
 accept-alike : (f : Form) (m : Machine) (c : ℕ) → Alike (accept f) m c
@@ -261,7 +261,7 @@ begins-by : (n : ℕ) (m v : Machine) → Adds n m v → Begins m v
 begins-by n m v a = record { more = a .more; is = a .is }
 
 accept-extends : (f : Form) (m : Machine) → Begins m (accept f m)
-accept-extends (a-station k b d w n) m = extends .network _ m .records
+accept-extends (a-station k b d w n) m = record { more = []; is = sym (append-nil (m .records)) }
 accept-extends (an-order i t u v k) m = put-event-walks Extends extends (event-at t (Arrive i k)) (ordered i (new-order u v k)) (ordered-tells i (new-order u v k) .extends) m .records
 accept-extends (a-withdraw i t) m = put-event-walks Extends extends (event-at t (Withdraw i)) announced (announced-tells .extends) m .records
 accept-extends (a-close k t j) m = put-event-walks Extends extends (event-at t (Closing k j)) announced (announced-tells .extends) m .records

@@ -41,7 +41,10 @@ extends = record {
     end = b .end ∙ a .end;
   };
   told = λ x m. record { records = record { more = record { at = m .instant; kind = x } ∷ []; is = refl }; instant = refl; end = refl };
-  network = λ n m. kept m _ refl refl refl;
+  marked = λ i st m. kept m _ refl refl refl;
+  occupied = λ k m. kept m _ refl refl refl;
+  freed = λ k m. kept m _ refl refl refl;
+  closing = λ k j m e. kept m _ refl refl refl;
   events = λ s m. kept m _ refl refl refl;
   lines = λ s m. kept m _ refl refl refl;
   cut = λ c m. kept m _ refl refl refl;

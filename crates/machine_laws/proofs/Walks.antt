@@ -1,4 +1,5 @@
 -- What holds over every elementary change holds over every part of a step.
+use mathlib.Core.Path.{_≡_, refl}
 use mathlib.Core.Bool.{Bool, true, false}
 use Prim.Native.Nat.{ℕ, zero, suc}
 use Rattle.std.specs.declared.option.Option.{Option}
@@ -18,7 +19,7 @@ use Rattle.machine.specs.declared.networks.OrderState.{OrderState}
 use Rattle.machine.specs.declared.networks.OrderState.the-variants.{NotYet, Waiting, InService, Done as is-done, Away as is-away, Withdrawn as is-withdrawn, Stranded}
 use Rattle.machine.specs.declared.records.RecordKind.{RecordKind}
 use Rattle.machine.specs.declared.records.StoreName.{StoreName}
-use Rattle.machine.specs.Network.{station, order, has-free, open-station}
+use Rattle.machine.specs.Network.{station, order, has-free, open-station, occupied, closed as closed-net}
 use Rattle.machine.specs.Machine.{Store, Machine, listed, with-cut, with-network, with-events, with-lines, tell, fail, mark, strand, seq-by, branch, halted, as-is}
 use Rattle.machine.specs.Puts.{Continuation, try, put-event, put-line}
 use Rattle.machine.specs.Step.{started, start, at-limit, turned-away, waited, wait, its-entry, finish-event, enter-by, enter, line, take-line, start-by, start-front, free-bench, release, leave-by, leave, finish, cancel-line, cancel-event, withdraw-by, withdraw, fill-by, fill-one, fill, stays-open, close-into, close-by, close, react}
@@ -27,7 +28,10 @@ pub record Closed (P : Machine → Machine → Type 0) : Type 0 where
   pub same : (m : Machine) → P m m
   pub then : (m v w : Machine) → P m v → P v w → P m w
   pub told : (x : RecordKind) (m : Machine) → P m (tell x m)
-  pub network : (n : Network) (m : Machine) → P m (with-network m n)
+  pub marked : (i : ℕ) (st : OrderState) (m : Machine) → P m (mark i st m)
+  pub occupied : (k : ℕ) (m : Machine) → P m (with-network m (occupied k (m .network)))
+  pub freed : (k : ℕ) (m : Machine) → P m (free-bench k m)
+  pub closing : (k j : ℕ) (m : Machine) → stays-open k j (m .network) ≡ false → P m (with-network m (closed-net k j (m .network)))
   pub events : (s : State Event) (m : Machine) → P m (with-events m (listed (m .events) s))
   pub lines : (s : Store LineEntry) (m : Machine) → P m (with-lines m s)
   pub cut : (c : Option ℕ) (m : Machine) → P m (with-cut m c)
@@ -49,21 +53,21 @@ module _ (P : Machine → Machine → Type 0) (closed : Closed P) where
       closed .then m v (then (t .answer) v) (closed .then m u v (closed .lines (listed (m .lines) (t .state)) m) (closed .cut (t .cut) u)) (h (t .answer) v)
 
   pub strand-walks : (i : ℕ) (m : Machine) → P m (strand i m)
-  strand-walks i m = closed .network _ m
+  strand-walks i m = closed .marked i Stranded m
 
   pub started-walks : (i k : ℕ) (o : Result ℕ Refusal) (m : Machine) → P m (started i k o m)
-  started-walks i k (Ok n) m = closed .then m _ _ (closed .network _ m) (closed .told _ _)
+  started-walks i k (Ok n) m = closed .then m _ _ (closed .then m (mark i (InService k n) m) _ (closed .marked i (InService k n) m) (closed .occupied k _)) (closed .told _ _)
   started-walks i k (Err f) m = closed .then m _ _ (closed .failed f _ m) (strand-walks i _)
 
   pub start-walks : (i k : ℕ) (m : Machine) → P m (start i k m)
   start-walks i k m = put-event-walks (finish-event i k) (started i k) (started-walks i k) m
 
   pub away-walks : (b : Bool) (i k : ℕ) (f : Refusal) (m : Machine) → P m (turned-away b i k f m)
-  away-walks true i k f m = closed .then m _ _ (closed .network _ m) (closed .told _ _)
+  away-walks true i k f m = closed .then m _ _ (closed .marked i is-away m) (closed .told _ _)
   away-walks false i k f m = closed .then m _ _ (closed .failed f _ m) (strand-walks i _)
 
   pub waited-walks : (i k : ℕ) (o : Result ℕ Refusal) (m : Machine) → P m (waited i k o m)
-  waited-walks i k (Ok n) m = closed .then m _ _ (closed .network _ m) (closed .told _ _)
+  waited-walks i k (Ok n) m = closed .then m _ _ (closed .marked i (Waiting n) m) (closed .told _ _)
   waited-walks i k (Err f) m = away-walks (at-limit f) i k f m
 
   pub wait-walks : (i k : ℕ) (m : Machine) → P m (wait i k m)
@@ -87,11 +91,11 @@ module _ (P : Machine → Machine → Type 0) (closed : Closed P) where
   leave-walks i k m = go (station (m .network) k .next)
     where
       go : (o : Option ℕ) → P m (leave-by o i m)
-      go None = closed .then m _ _ (closed .network _ m) (closed .told _ _)
+      go None = closed .then m _ _ (closed .marked i is-done m) (closed .told _ _)
       go (Some j) = enter-walks i j m
 
   pub release-walks : (i k : ℕ) (m : Machine) → P m (release i k m)
-  release-walks i k m = closed .then m _ _ (closed .then m _ _ (closed .told _ m) (closed .network _ _)) (front-walks k _)
+  release-walks i k m = closed .then m _ _ (closed .then m _ _ (closed .told _ m) (closed .freed k _)) (front-walks k _)
 
   pub both-walk : (ends : Machine → Bool) (f g h : Machine → Machine) → ((m : Machine) → P m (f m)) → ((m : Machine) → P m (g m)) → ((m : Machine) → P m (h m)) → (m : Machine) → P m (seq-by ends f g h m)
   both-walk ends f g h pf pg ph m = closed .then m (f m) _ (pf m) (go (ends (f m)))
@@ -108,12 +112,12 @@ module _ (P : Machine → Machine → Type 0) (closed : Closed P) where
     where
       go : (st : OrderState) → P m (withdraw-by st i m)
       go NotYet = closed .told _ m
-      go (Waiting s) = closed .then m _ _ (closed .then m _ _ (closed .lines _ m) (closed .network _ (cancel-line s m))) (closed .told _ _)
+      go (Waiting s) = closed .then m _ _ (closed .then m _ _ (closed .lines _ m) (closed .marked i is-withdrawn (cancel-line s m))) (closed .told _ _)
       go (InService k s) =
           let a = cancel-event s m in
           let b = mark i is-withdrawn a in
           let d = free-bench k b in
-          closed .then m _ _ (closed .then m d _ (closed .then m b d (closed .then m a b (closed .events _ m) (closed .network _ a)) (closed .network _ b)) (closed .told _ d)) (front-walks k _)
+          closed .then m _ _ (closed .then m d _ (closed .then m b d (closed .then m a b (closed .events _ m) (closed .marked i is-withdrawn a)) (closed .freed k b)) (closed .told _ d)) (front-walks k _)
       go is-done = closed .told _ m
       go is-away = closed .told _ m
       go is-withdrawn = closed .told _ m
@@ -131,13 +135,13 @@ module _ (P : Machine → Machine → Type 0) (closed : Closed P) where
   fill-walks (suc n) j m = both-walk halted (fill n j) (fill-one j) as-is (fill-walks n j) (fill-one-walks j) (closed .same) m
 
   pub close-walks : (k j : ℕ) (m : Machine) → P m (close k j m)
-  close-walks k j m = go (stays-open k j (m .network))
+  close-walks k j m = go (stays-open k j (m .network)) refl
     where
-      go : (b : Bool) → P m (close-by b k j m)
-      go true = closed .told _ m
-      go false =
-          let a = with-network m _ in
-          closed .then m _ _ (closed .then m _ _ (closed .then m a _ (closed .network _ m) (closed .lines _ a)) (closed .told _ _)) (fill-walks 8 j (close-into k j m))
+      go : (b : Bool) → stays-open k j (m .network) ≡ b → P m (close-by b k j m)
+      go true e = closed .told _ m
+      go false e =
+          let a = with-network m (closed-net k j (m .network)) in
+          closed .then m _ _ (closed .then m _ _ (closed .then m a _ (closed .closing k j m e) (closed .lines _ a)) (closed .told _ _)) (fill-walks 8 j (close-into k j m))
 
   pub react-walks : (x : EventKind) (m : Machine) → P m (react x m)
   react-walks (Arrive i k) m = enter-walks i k m

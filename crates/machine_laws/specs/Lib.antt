@@ -1,2 +1,4 @@
+pub mod Runs
 pub mod Records
 pub mod Stops
+pub mod Closings

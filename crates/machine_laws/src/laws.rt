@@ -1,5 +1,6 @@
 // Theorems about every run of the machine. The functions compute nothing: each stands for the theorem in its contract.
 ghost use Rattle.machine_laws.specs.Records.{Few-records};
+ghost use Rattle.machine_laws.specs.Closings.{Open-reached};
 ghost use Rattle.machine_laws.specs.Stops.{Stopped-alike};
 
 // A step makes at most 9 records, after those that there are.
@@ -10,4 +11,9 @@ pub fn steps_make_few_records()
 // Stopped at a put, the machine is the unstopped one up to that put, in one call and in a list of calls.
 pub fn stopped_is_unstopped_before()
     ensures { λ _. ⌜ Stopped-alike ⌝ }
+{}
+
+// Closings never form a ring: whatever list of calls was made, following them comes to an open station.
+pub fn closings_lead_to_open()
+    ensures { λ _. ⌜ Open-reached ⌝ }
 {}

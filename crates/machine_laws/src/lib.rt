@@ -3,3 +3,4 @@ mod laws;
 
 pub use laws::steps_make_few_records;
 pub use laws::stopped_is_unstopped_before;
+pub use laws::closings_lead_to_open;

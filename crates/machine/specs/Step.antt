@@ -15,7 +15,7 @@ use Rattle.elements.specs.Elements.{line-le}
 use Rattle.stores.specs.declared.refusals.Refusal.{Refusal}
 use Rattle.stores.specs.declared.refusals.Refusal.the-variants.{QueueNumber, SameQueue, AtLimit, NoCell, NoStamp, NotQueued}
 use Rattle.stores.specs.Meaning.{list-of, count-of}
-use Rattle.stores.specs.Calls.{take-after, meld-after, cancel-after, front, found, queue-with}
+use Rattle.stores.specs.Calls.{take-after, meld-answer, meld-after, cancel-after, front, found, queue-with}
 use Rattle.machine.specs.declared.networks.Network.{Network}
 use Rattle.machine.specs.declared.networks.OrderState.{OrderState}
 use Rattle.machine.specs.declared.networks.OrderState.the-variants.{NotYet, Waiting, InService, Done as is-done, Away as is-away, Withdrawn as is-withdrawn, Stranded}
@@ -152,7 +152,7 @@ abbrev pub stays-open : ℕ → ℕ → Network → Bool
 stays-open k j n = eqb k j || (is-some (station n k .into) || is-some (station n j .into))
 
 abbrev pub meld-lines : ℕ → ℕ → Machine → Machine
-meld-lines j k m = with-lines m (listed (m .lines) (meld-after line-le (m .lines .state) j k (Ok 0)))
+meld-lines j k m = with-lines m (listed (m .lines) (meld-after line-le (m .lines .state) j k (meld-answer (m .lines .state) j k)))
 
 abbrev pub close-into : ℕ → ℕ → Machine → Machine
 close-into k j m = tell (Close k j (count-of (m .lines .state) k)) (meld-lines j k (with-network m (closed k j (m .network))))

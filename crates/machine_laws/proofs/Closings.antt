@@ -1,37 +1,32 @@
 -- Every call keeps that closings lead to an open station.
-use mathlib.Core.Path.{_≡_, refl, sym, ap, subst, _∙_}
+use mathlib.Core.Path.{_≡_, refl, sym, ap, _∙_}
 use mathlib.Core.Bool.{Bool, true, false, _&&_, not}
-use mathlib.Core.List.{List, []}
-use mathlib.Core.Logic.{_⊎_, inl, inr}
-use Prim.Native.Nat.{ℕ, _<_, _≤_}
+use Prim.Native.Nat.{ℕ}
 use native.Mathlib.Omega.{arith}
-use lib.ListN.{length, getD, set, replicate}
+use lib.ListN.{length, getD}
 use Rattle.std.specs.declared.option.Option.{Option}
 use Rattle.std.specs.declared.option.Option.the-variants.{Some, None}
 use Rattle.std.specs.declared.result.Result.{Result}
 use Rattle.std.specs.declared.result.Result.the-variants.{Ok, Err}
-use Rattle.std.proofs.shelf.Lists.{getD-replicate, getD-past, length-replicate}
-use Rattle.std.proofs.shelf.Tests.{cases-lt, cases-eq}
 use Rattle.elements.specs.declared.events.Event.{Event}
 use Rattle.elements.specs.declared.events.EventKind.the-variants.{Arrive, Withdraw, Close as Closing}
 use Rattle.elements.specs.Elements.{event-le}
 use Rattle.elements.specs.declared.entries.Entry.{Entry}
 use Rattle.stores.specs.declared.refusals.Refusal.{Refusal}
 use Rattle.machine.specs.declared.networks.Station.{Station}
-use Rattle.machine.specs.declared.networks.Order.{Order}
 use Rattle.machine.specs.declared.networks.Network.{Network}
 use Rattle.machine.specs.declared.forms.Form.{Form}
 use Rattle.machine.specs.declared.forms.Form.the-variants.{Station as a-station, Order as an-order, Withdraw as a-withdraw, Close as a-close, End}
 use Rattle.machine.specs.declared.forms.FormRefusal.{FormRefusal}
 use Rattle.machine.specs.declared.records.Fault.{Fault}
-use Rattle.machine.specs.Network.{no-station, cleared, station, with-station, with-new-station, follow}
+use Rattle.machine.specs.Network.{no-station, cleared, station, with-station, follow}
 use Rattle.machine.specs.Machine.{listed, with-cut, with-events, is-some, Bounds, Machine, start-machine, with-refusal, with-instant}
 use Rattle.machine.specs.Puts.{Continuation, try, put-event}
-use Rattle.machine.specs.Step.{not-after, due-by, due-event, next-event, take-event, step-by, step}
+use Rattle.machine.specs.Step.{due-by, due-event, next-event, take-event, step-by, step}
 use Rattle.machine.specs.Forms.{event-at, new-order, in-range, form-in-place, names-declared, checked, announced, ordered, new-station, accept, form-by, form-refusal, form}
-use Rattle.machine.specs.Calls.{Call, a-form, a-step, call, calls}
+use Rattle.machine.specs.Calls.{Call, a-form, a-step, call}
 use Rattle.machine_laws.specs.Closings.{Open-reached}
-use Rattle.machine_laws.proofs.Walks.{Closed, put-event-walks, react-walks}
+use Rattle.machine_laws.proofs.Walks.{Closed, react-walks}
 use Rattle.machine_laws.proofs.Stopping.{Extends, extends}
 use Rattle.machine_laws.proofs.Elements.{set-has, replicate-has}
 use Rattle.machine_laws.proofs.Calling.{calls-keep}
@@ -58,8 +53,12 @@ keeps = record {
   occupied = λ k m h. forest-kept (m .network) k _ refl h;
   freed = λ k m h. forest-kept (m .network) k _ refl h;
   closing = λ k j m e h. forest-closed (m .network) k j e h;
-  events = λ s m h. h;
-  lines = λ s m h. h;
+  event-put = λ x m e f h. h;
+  event-cancelled = λ k m h. h;
+  line-put = λ q x m e h. h;
+  line-taken = λ k m h. h;
+  line-cancelled = λ k m h. h;
+  line-melded = λ j k m h. h;
   cut = λ c m h. h;
   failed = λ f s m h. h;
 }

@@ -1,23 +1,21 @@
 -- Following closings comes to an open station.
 use mathlib.Core.Path.{_≡_, refl, sym, ap, subst, _∙_}
-use mathlib.Core.Bool.{Bool, true, false, cond, _||_}
-use mathlib.Core.List.{List, [], _∷_}
+use mathlib.Core.Bool.{false, cond, _||_}
 use mathlib.Core.Logic.{_⊎_, inl, inr}
 use Prim.Native.Nat.{ℕ, zero, suc, _+_, _-_, _≤_, _<_}
 use native.Mathlib.Nat.{zero-add, suc-add}
-use native.Mathlib.Numerals.{add-one}
 use native.Mathlib.Omega.{arith}
 use lib.Dec.{eqb}
-use lib.ListN.{length, getD, set, replicate}
-use Rattle.std.specs.shelf.Lists.{All, countBy}
+use lib.ListN.{length}
+use Rattle.std.specs.shelf.Lists.{countBy}
 use Rattle.std.specs.declared.option.Option.{Option}
 use Rattle.std.specs.declared.option.Option.the-variants.{Some, None}
-use Rattle.std.proofs.shelf.Lists.{length-set, getD-set-same, getD-set-other, set-past, getD-past}
+use Rattle.std.proofs.shelf.Lists.{length-set, getD-set-same, getD-set-other, set-past}
 use Rattle.std.proofs.shelf.Sums.{sumBy-set, countBy-le-length}
 use Rattle.std.proofs.shelf.Tests.{cases-eq, cases-lt, or-parts, eqb-false}
 use Rattle.machine.specs.declared.networks.Station.{Station}
 use Rattle.machine.specs.declared.networks.Network.{Network}
-use Rattle.machine.specs.Network.{no-station, station, with-station, with-into, closed, follow-by, follow, open-station}
+use Rattle.machine.specs.Network.{no-station, station, with-station, with-into, closed, follow-by, follow}
 use Rattle.machine.specs.Machine.{is-some}
 use Rattle.machine.specs.Step.{stays-open}
 use Rattle.machine_laws.specs.Closings.{Leads-to-open}

@@ -1,4 +1,5 @@
 pub mod Adding
+pub mod Trying
 pub mod Walks
 pub mod Stopping
 pub mod StoppedCalls

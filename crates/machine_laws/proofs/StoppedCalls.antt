@@ -36,8 +36,8 @@ use Rattle.machine.specs.Calls.{Call, a-form, a-step, call, is-stopped, calls}
 use Rattle.machine_laws.specs.Records.{Adds}
 use Rattle.machine_laws.specs.Stops.{Begins, Unreached, Reached, Reached-now, Stopped-alike}
 use Rattle.machine_laws.proofs.Adding.{few-records}
-use Rattle.machine_laws.proofs.Walks.{put-event-walks, started-walks, waited-walks, strand-walks, leave-walks, fill-one-walks}
-use Rattle.machine_laws.proofs.Stopping.{Extends, kept, extends, Alike, alike-at, alike-as, alike-blind, Tells, event-put-alike, line-put-alike}
+use Rattle.machine_laws.proofs.Walks.{started-walks, waited-walks, strand-walks, leave-walks, fill-one-walks}
+use Rattle.machine_laws.proofs.Stopping.{Extends, kept, extends, event-put-extends, Alike, alike-at, alike-as, alike-blind, Tells, event-put-alike, line-put-alike}
 
 -- h follows a stop, and leaves what is told of it
 pub record Gentle (h : Machine → Machine) : Type 0 where
@@ -262,9 +262,9 @@ begins-by n m v a = record { more = a .more; is = a .is }
 
 accept-extends : (f : Form) (m : Machine) → Begins m (accept f m)
 accept-extends (a-station k b d w n) m = record { more = []; is = sym (append-nil (m .records)) }
-accept-extends (an-order i t u v k) m = put-event-walks Extends extends (event-at t (Arrive i k)) (ordered i (new-order u v k)) (ordered-tells i (new-order u v k) .extends) m .records
-accept-extends (a-withdraw i t) m = put-event-walks Extends extends (event-at t (Withdraw i)) announced (announced-tells .extends) m .records
-accept-extends (a-close k t j) m = put-event-walks Extends extends (event-at t (Closing k j)) announced (announced-tells .extends) m .records
+accept-extends (an-order i t u v k) m = event-put-extends (event-at t (Arrive i k)) (ordered i (new-order u v k)) (ordered-tells i (new-order u v k) .extends) m .records
+accept-extends (a-withdraw i t) m = event-put-extends (event-at t (Withdraw i)) announced (announced-tells .extends) m .records
+accept-extends (a-close k t j) m = event-put-extends (event-at t (Closing k j)) announced (announced-tells .extends) m .records
 accept-extends (End t) m = record { more = []; is = sym (append-nil (m .records)) }
 
 form-begins : (o : Option FormRefusal) (f : Form) (m : Machine) → Begins m (form-by o f m)

@@ -21,7 +21,7 @@ use Rattle.machine.specs.declared.records.StoreName.the-variants.{Events, Order
 use Rattle.machine.specs.Machine.{Store, Machine, listed, with-cut, with-events, with-lines}
 use Rattle.machine.specs.Puts.{Continuation, try, tried-by, bound-at, event-tried, put-event, line-tried, put-line, stopped}
 use Rattle.machine_laws.specs.Stops.{Begins, Unreached, Reached-now}
-use Rattle.machine_laws.proofs.Walks.{Closed, put-event-walks, put-line-walks}
+use Rattle.machine_laws.proofs.Walks.{Closed}
 
 -- v has m's records and maybe more, at the same instant, with the same end
 pub record Extends (m v : Machine) : Type 0 where
@@ -45,11 +45,27 @@ extends = record {
   occupied = λ k m. kept m _ refl refl refl;
   freed = λ k m. kept m _ refl refl refl;
   closing = λ k j m e. kept m _ refl refl refl;
-  events = λ s m. kept m _ refl refl refl;
-  lines = λ s m. kept m _ refl refl refl;
+  event-put = λ x m e f. kept m _ refl refl refl;
+  event-cancelled = λ k m. kept m _ refl refl refl;
+  line-put = λ q x m e. kept m _ refl refl refl;
+  line-taken = λ k m. kept m _ refl refl refl;
+  line-cancelled = λ k m. kept m _ refl refl refl;
+  line-melded = λ j k m. kept m _ refl refl refl;
   cut = λ c m. kept m _ refl refl refl;
   failed = λ f s m. kept m _ refl refl refl;
 }
+
+pub event-put-extends : (x : Machine → Event) (then : Continuation) → ((r : Result ℕ Refusal) (m : Machine) → Extends m (then r m)) → (m : Machine) → Extends m (put-event x then m)
+event-put-extends x then h m =
+    let t = try event-le (m .cut) (m .events) 0 (x m) in
+    let v = with-cut (with-events m (listed (m .events) (t .state))) (t .cut) in
+    extends .then m v _ (kept m v refl refl refl) (h (t .answer) v)
+
+line-put-extends : (q : ℕ) (x : Machine → LineEntry) (then : Continuation) → ((r : Result ℕ Refusal) (m : Machine) → Extends m (then r m)) → (m : Machine) → Extends m (put-line q x then m)
+line-put-extends q x then h m =
+    let t = try line-le (m .cut) (m .lines) q (x m) in
+    let v = with-cut (with-lines m (listed (m .lines) (t .state))) (t .cut) in
+    extends .then m v _ (kept m v refl refl refl) (h (t .answer) v)
 
 pub record Alike (f : Machine → Machine) (m : Machine) (c : ℕ) : Type 0 where
   -- who is never stopped stays so
@@ -134,7 +150,7 @@ module _ (x : Machine → Event) (then : Continuation) (blind : (m : Machine) (c
       go (inl p) = inl (record { left = p .left; same = tried (Some c) (Some (p .left)) (p .answer) (p .state) (p .later) ∙ sym (ap (λ w. with-cut w (Some (p .left))) (tried None None (p .answer) (p .state) (p .never))) })
       go (inr p) =
           let v = tried (Some c) (Some 0) (Err NoCell) (m .events .state) (p .now) in
-          let u = put-event-walks Extends extends x then (tells .extends) (with-cut m None) in
+          let u = event-put-extends x then (tells .extends) (with-cut m None) in
           let w = with-events m (listed (m .events) (m .events .state)) in
           let g = tells .extends (Err NoCell) w in
           inr (record {
@@ -162,7 +178,7 @@ module _ (q : ℕ) (x : Machine → LineEntry) (then : Continuation) (blind : (m
       go (inl p) = inl (record { left = p .left; same = tried (Some c) (Some (p .left)) (p .answer) (p .state) (p .later) ∙ sym (ap (λ w. with-cut w (Some (p .left))) (tried None None (p .answer) (p .state) (p .never))) })
       go (inr p) =
           let v = tried (Some c) (Some 0) (Err NoCell) (m .lines .state) (p .now) in
-          let u = put-line-walks Extends extends q x then (tells .extends) (with-cut m None) in
+          let u = line-put-extends q x then (tells .extends) (with-cut m None) in
           let w = with-lines m (listed (m .lines) (m .lines .state)) in
           let g = tells .extends (Err NoCell) w in
           inr (record {

@@ -1,7 +1,10 @@
 -- What holds over every elementary change holds over every part of a step.
-use mathlib.Core.Path.{_≡_, refl}
+use mathlib.Core.Path.{_≡_, refl, sym, subst}
+use mathlib.Core.Logic.{_⊎_, inl, inr}
 use mathlib.Core.Bool.{Bool, true, false}
-use Prim.Native.Nat.{ℕ, zero, suc}
+use Prim.Native.Nat.{ℕ, zero, suc, _≤_}
+use native.Mathlib.Omega.{arith}
+use lib.Dec.{leb, eqb}
 use Rattle.std.specs.declared.option.Option.{Option}
 use Rattle.std.specs.declared.option.Option.the-variants.{Some, None}
 use Rattle.std.specs.declared.result.Result.{Result}
@@ -13,16 +16,16 @@ use Rattle.elements.specs.declared.lines.LineEntry.{LineEntry}
 use Rattle.elements.specs.declared.entries.Entry.{Entry}
 use Rattle.elements.specs.Elements.{event-le, line-le}
 use Rattle.stores.specs.declared.refusals.Refusal.{Refusal}
-use Rattle.stores.specs.Meaning.{State}
-use Rattle.machine.specs.declared.networks.Network.{Network}
+use Rattle.stores.specs.Calls.{put-after}
 use Rattle.machine.specs.declared.networks.OrderState.{OrderState}
 use Rattle.machine.specs.declared.networks.OrderState.the-variants.{NotYet, Waiting, InService, Done as is-done, Away as is-away, Withdrawn as is-withdrawn, Stranded}
 use Rattle.machine.specs.declared.records.RecordKind.{RecordKind}
 use Rattle.machine.specs.declared.records.StoreName.{StoreName}
 use Rattle.machine.specs.Network.{station, order, has-free, open-station, occupied, closed as closed-net}
-use Rattle.machine.specs.Machine.{Store, Machine, listed, with-cut, with-network, with-events, with-lines, tell, fail, mark, strand, seq-by, branch, halted, as-is}
-use Rattle.machine.specs.Puts.{Continuation, try, put-event, put-line}
-use Rattle.machine.specs.Step.{started, start, at-limit, turned-away, waited, wait, its-entry, finish-event, enter-by, enter, line, take-line, start-by, start-front, free-bench, release, leave-by, leave, finish, cancel-line, cancel-event, withdraw-by, withdraw, fill-by, fill-one, fill, stays-open, close-into, close-by, close, react}
+use Rattle.machine.specs.Machine.{Machine, listed, with-cut, with-network, with-events, with-lines, tell, fail, mark, strand, seq-by, branch, halted, as-is}
+use Rattle.machine.specs.Puts.{Continuation, event-tried, put-event, line-tried, put-line}
+use Rattle.machine.specs.Step.{meld-lines, started, start, at-limit, turned-away, waited, wait, its-entry, finish-event, enter-by, enter, line, take-line, start-by, start-front, free-bench, release, leave-by, leave, finish, cancel-line, cancel-event, withdraw-by, withdraw, fill-by, fill-one, fill, stays-open, close-into, close-by, close, react}
+use Rattle.machine_laws.proofs.Trying.{Refused, Accepted, tried}
 
 pub record Closed (P : Machine → Machine → Type 0) : Type 0 where
   pub same : (m : Machine) → P m m
@@ -32,25 +35,33 @@ pub record Closed (P : Machine → Machine → Type 0) : Type 0 where
   pub occupied : (k : ℕ) (m : Machine) → P m (with-network m (occupied k (m .network)))
   pub freed : (k : ℕ) (m : Machine) → P m (free-bench k m)
   pub closing : (k j : ℕ) (m : Machine) → stays-open k j (m .network) ≡ false → P m (with-network m (closed-net k j (m .network)))
-  pub events : (s : State Event) (m : Machine) → P m (with-events m (listed (m .events) s))
-  pub lines : (s : Store LineEntry) (m : Machine) → P m (with-lines m s)
+  pub event-put : (x : Event) (m : Machine) → m .instant ≤ x .time → eqb (m .events .state .next) (m .events .bounds .stamps) ≡ false → P m (with-events m (listed (m .events) (put-after event-le (m .events .state) 0 x (Ok (m .events .state .next)))))
+  pub event-cancelled : (k : ℕ) (m : Machine) → P m (cancel-event k m)
+  pub line-put : (q : ℕ) (x : LineEntry) (m : Machine) → leb 32 q ≡ false → P m (with-lines m (listed (m .lines) (put-after line-le (m .lines .state) q x (Ok (m .lines .state .next)))))
+  pub line-taken : (k : ℕ) (m : Machine) → P m (take-line k m)
+  pub line-cancelled : (k : ℕ) (m : Machine) → P m (cancel-line k m)
+  pub line-melded : (j k : ℕ) (m : Machine) → P m (meld-lines j k m)
   pub cut : (c : Option ℕ) (m : Machine) → P m (with-cut m c)
   pub failed : (f : Refusal) (s : StoreName) (m : Machine) → P m (fail f s m)
 
 module _ (P : Machine → Machine → Type 0) (closed : Closed P) where
-  pub put-event-walks : (x : Machine → Event) (then : Continuation) → ((o : Result ℕ Refusal) (v : Machine) → P v (then o v)) → (m : Machine) → P m (put-event x then m)
-  put-event-walks x then h m =
-      let t = try event-le (m .cut) (m .events) 0 (x m) in
-      let u = with-events m (listed (m .events) (t .state)) in
-      let v = with-cut u (t .cut) in
-      closed .then m v (then (t .answer) v) (closed .then m u v (closed .events (t .state) m) (closed .cut (t .cut) u)) (h (t .answer) v)
+  pub put-event-walks : (x : Machine → Event) (then : Continuation) → ((m : Machine) → m .instant ≤ x m .time) → ((o : Result ℕ Refusal) (v : Machine) → P v (then o v)) → (m : Machine) → P m (put-event x then m)
+  put-event-walks x then late h m = go (tried event-le (m .cut) (m .events) 0 (x m))
+    where
+      go : Refused event-le (m .cut) (m .events) 0 (x m) ⊎ Accepted event-le (m .cut) (m .events) 0 (x m) → P m (put-event x then m)
+      go (inl p) = subst (λ t. P m (event-tried then m t)) (sym (p .is)) (closed .then m (with-cut m (p .cut)) _ (closed .cut (p .cut) m) (h (Err (p .refusal)) _))
+      go (inr p) =
+          let u = with-events m (listed (m .events) (put-after event-le (m .events .state) 0 (x m) (Ok (m .events .state .next)))) in
+          subst (λ t. P m (event-tried then m t)) (sym (p .is)) (closed .then m (with-cut u (p .cut)) _ (closed .then m u _ (closed .event-put (x m) m (late m) (p .stamp)) (closed .cut (p .cut) u)) (h (Ok (m .events .state .next)) _))
 
   pub put-line-walks : (q : ℕ) (x : Machine → LineEntry) (then : Continuation) → ((o : Result ℕ Refusal) (v : Machine) → P v (then o v)) → (m : Machine) → P m (put-line q x then m)
-  put-line-walks q x then h m =
-      let t = try line-le (m .cut) (m .lines) q (x m) in
-      let u = with-lines m (listed (m .lines) (t .state)) in
-      let v = with-cut u (t .cut) in
-      closed .then m v (then (t .answer) v) (closed .then m u v (closed .lines (listed (m .lines) (t .state)) m) (closed .cut (t .cut) u)) (h (t .answer) v)
+  put-line-walks q x then h m = go (tried line-le (m .cut) (m .lines) q (x m))
+    where
+      go : Refused line-le (m .cut) (m .lines) q (x m) ⊎ Accepted line-le (m .cut) (m .lines) q (x m) → P m (put-line q x then m)
+      go (inl p) = subst (λ t. P m (line-tried then m t)) (sym (p .is)) (closed .then m (with-cut m (p .cut)) _ (closed .cut (p .cut) m) (h (Err (p .refusal)) _))
+      go (inr p) =
+          let u = with-lines m (listed (m .lines) (put-after line-le (m .lines .state) q (x m) (Ok (m .lines .state .next)))) in
+          subst (λ t. P m (line-tried then m t)) (sym (p .is)) (closed .then m (with-cut u (p .cut)) _ (closed .then m u _ (closed .line-put q (x m) m (p .queue)) (closed .cut (p .cut) u)) (h (Ok (m .lines .state .next)) _))
 
   pub strand-walks : (i : ℕ) (m : Machine) → P m (strand i m)
   strand-walks i m = closed .marked i Stranded m
@@ -60,7 +71,7 @@ module _ (P : Machine → Machine → Type 0) (closed : Closed P) where
   started-walks i k (Err f) m = closed .then m _ _ (closed .failed f _ m) (strand-walks i _)
 
   pub start-walks : (i k : ℕ) (m : Machine) → P m (start i k m)
-  start-walks i k m = put-event-walks (finish-event i k) (started i k) (started-walks i k) m
+  start-walks i k m = put-event-walks (finish-event i k) (started i k) (λ v. omega arith) (started-walks i k) m
 
   pub away-walks : (b : Bool) (i k : ℕ) (f : Refusal) (m : Machine) → P m (turned-away b i k f m)
   away-walks true i k f m = closed .then m _ _ (closed .marked i is-away m) (closed .told _ _)
@@ -85,7 +96,7 @@ module _ (P : Machine → Machine → Type 0) (closed : Closed P) where
     where
       go : (o : Option (Entry LineEntry)) → P m (start-by o k m)
       go None = closed .same m
-      go (Some e) = closed .then m _ _ (closed .lines _ m) (start-walks (e .element .order) k (take-line k m))
+      go (Some e) = closed .then m _ _ (closed .line-taken k m) (start-walks (e .element .order) k (take-line k m))
 
   pub leave-walks : (i k : ℕ) (m : Machine) → P m (leave i k m)
   leave-walks i k m = go (station (m .network) k .next)
@@ -112,12 +123,12 @@ module _ (P : Machine → Machine → Type 0) (closed : Closed P) where
     where
       go : (st : OrderState) → P m (withdraw-by st i m)
       go NotYet = closed .told _ m
-      go (Waiting s) = closed .then m _ _ (closed .then m _ _ (closed .lines _ m) (closed .marked i is-withdrawn (cancel-line s m))) (closed .told _ _)
+      go (Waiting s) = closed .then m _ _ (closed .then m _ _ (closed .line-cancelled s m) (closed .marked i is-withdrawn (cancel-line s m))) (closed .told _ _)
       go (InService k s) =
           let a = cancel-event s m in
           let b = mark i is-withdrawn a in
           let d = free-bench k b in
-          closed .then m _ _ (closed .then m d _ (closed .then m b d (closed .then m a b (closed .events _ m) (closed .marked i is-withdrawn a)) (closed .freed k b)) (closed .told _ d)) (front-walks k _)
+          closed .then m _ _ (closed .then m d _ (closed .then m b d (closed .then m a b (closed .event-cancelled s m) (closed .marked i is-withdrawn a)) (closed .freed k b)) (closed .told _ d)) (front-walks k _)
       go is-done = closed .told _ m
       go is-away = closed .told _ m
       go is-withdrawn = closed .told _ m
@@ -141,7 +152,7 @@ module _ (P : Machine → Machine → Type 0) (closed : Closed P) where
       go true e = closed .told _ m
       go false e =
           let a = with-network m (closed-net k j (m .network)) in
-          closed .then m _ _ (closed .then m _ _ (closed .then m a _ (closed .closing k j m e) (closed .lines _ a)) (closed .told _ _)) (fill-walks 8 j (close-into k j m))
+          closed .then m _ _ (closed .then m _ _ (closed .then m a _ (closed .closing k j m e) (closed .line-melded j k a)) (closed .told _ _)) (fill-walks 8 j (close-into k j m))
 
   pub react-walks : (x : EventKind) (m : Machine) → P m (react x m)
   react-walks (Arrive i k) m = enter-walks i k m

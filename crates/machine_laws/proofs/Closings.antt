@@ -111,7 +111,7 @@ accept-grown (a-withdraw i t) m e h = put-grown (event-at t (Withdraw i)) announ
 accept-grown (a-close k t j) m e h = put-grown (event-at t (Closing k j)) announced announced-grown m h
 accept-grown (End t) m e h = record { forest = h .forest; draft = λ q. absurd (let z : _≡_ {A = ℕ} 0 1 = cc in omega arith) }
 
-in-draft : (o : Option ℕ) (b : Bool) (r d : Bool) → checked r (not (is-some o) && b) d ≡ None → o ≡ None
+pub in-draft : (o : Option ℕ) (b : Bool) (r d : Bool) → checked r (not (is-some o) && b) d ≡ None → o ≡ None
 in-draft None b r d e = refl
 in-draft (Some t) b true d e = absurd (let z : _≡_ {A = ℕ} 0 1 = cc in omega arith)
 in-draft (Some t) b false d e = absurd (let z : _≡_ {A = ℕ} 0 1 = cc in omega arith)

@@ -7,3 +7,7 @@ pub mod Elements
 pub mod Calling
 pub mod Following
 pub mod Closings
+pub mod Totalling
+pub mod TidyStores
+pub mod Timing
+pub mod TimedCalls

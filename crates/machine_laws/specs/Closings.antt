@@ -3,7 +3,6 @@ use mathlib.Core.Path.{_≡_}
 use Prim.Native.Nat.{ℕ}
 use Rattle.std.specs.declared.option.Option.the-variants.{None}
 use Rattle.machine.specs.declared.networks.Network.{Network}
-use Rattle.machine.specs.Machine.{Machine}
 use Rattle.machine.specs.Network.{station, open-station}
 use Rattle.machine_laws.specs.Runs.{Always}
 

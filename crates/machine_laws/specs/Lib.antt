@@ -2,3 +2,5 @@ pub mod Runs
 pub mod Records
 pub mod Stops
 pub mod Closings
+pub mod Entries
+pub mod Times

@@ -2,6 +2,7 @@
 ghost use Rattle.machine_laws.specs.Records.{Few-records};
 ghost use Rattle.machine_laws.specs.Closings.{Open-reached};
 ghost use Rattle.machine_laws.specs.Stops.{Stopped-alike};
+ghost use Rattle.machine_laws.specs.Times.{Times-rise, Runs-end};
 
 // A step makes at most 9 records, after those that there are.
 pub fn steps_make_few_records()
@@ -16,4 +17,14 @@ pub fn stopped_is_unstopped_before()
 // Closings never form a ring: whatever list of calls was made, following them comes to an open station.
 pub fn closings_lead_to_open()
     ensures { λ _. ⌜ Open-reached ⌝ }
+{}
+
+// The times of the records never fall.
+pub fn times_never_fall()
+    ensures { λ _. ⌜ Times-rise ⌝ }
+{}
+
+// Every run comes to its end within as many steps as the event store gives out stamps.
+pub fn runs_end()
+    ensures { λ _. ⌜ Runs-end ⌝ }
 {}

@@ -1,9 +1,9 @@
+pub mod Elements
 pub mod Adding
 pub mod Trying
 pub mod Walks
 pub mod Stopping
 pub mod StoppedCalls
-pub mod Elements
 pub mod Calling
 pub mod Following
 pub mod Closings
@@ -11,3 +11,8 @@ pub mod Totalling
 pub mod TidyStores
 pub mod Timing
 pub mod TimedCalls
+pub mod Histories
+pub mod Orders
+pub mod Hands
+pub mod Unchanged
+pub mod Spending

@@ -26,6 +26,7 @@ use Rattle.stores.proofs.Inserting.{sorted-insert}
 use Rattle.stores.proofs.Merging.{sorted-merge}
 use Rattle.stores.proofs.Removing.{sorted-rest, sorted-without}
 use Rattle.machine_laws.specs.Entries.{total-from, total}
+use Rattle.machine_laws.proofs.Elements.{all-get}
 use Rattle.machine_laws.proofs.Totalling.{stamp-is, total-with, total-put, total-take, total-meld, total-get, found-leaves}
 
 module _ {T : Type 0} (le : T → T → Bool) where
@@ -33,11 +34,6 @@ module _ {T : Type 0} (le : T → T → Bool) where
     pub queues : length (s .lists) ≡ 32
     pub sorted : All (Sorted (precedes-by le)) (s .lists)
     pub stamps : (k : ℕ) → total (stamp-is k) s ≤ cond (ltb k (s .next)) 1 0
-
-all-get : {A : Type 0} (P : A → Type 0) (xs : List A) (q : ℕ) (d : A) → All P xs → P d → P (getD xs q d)
-all-get P [] q d h z = z
-all-get P (x ∷ xs) zero d h z = h .0
-all-get P (x ∷ xs) (suc q) d h z = all-get P xs q d (h .1) z
 
 tally-sum : {T : Type 0} (k q : ℕ) (xs : List (Entry T)) → tally stamp-of xs k ≡ sumBy (stamp-is k q) xs
 tally-sum k q [] = refl

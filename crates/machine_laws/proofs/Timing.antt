@@ -28,6 +28,7 @@ use Rattle.stores.proofs.Counting.{adds-up}
 use Rattle.machine.specs.declared.records.Record.{Record}
 use Rattle.machine.specs.Machine.{Store, Machine}
 use Rattle.machine_laws.specs.Times.{Rising}
+use Rattle.machine_laws.proofs.Elements.{all-insert, all-without}
 use Rattle.machine_laws.proofs.TidyStores.{Tidy, tidy-put, tidy-take, tidy-meld, tidy-cancel}
 use Rattle.machine_laws.proofs.Walks.{Closed}
 
@@ -42,19 +43,6 @@ event-strict = strict event-le event-laws
 
 pub line-strict : Strict (precedes-by line-le) stamp-of
 line-strict = strict line-le line-laws
-
-module _ {A : Type 0} (P : A → Type 0) where
-  either : (b : Bool) (xs ys : List A) → All P xs → All P ys → All P (elim b [ true ↦ xs | false ↦ ys ])
-  either true xs ys p q = p
-  either false xs ys p q = q
-
-  all-insert : (before : A → A → Bool) (x : A) (ys : List A) → P x → All P ys → All P (insert before x ys)
-  all-insert before x [] p h = (p, tt)
-  all-insert before x (y ∷ ys) p h = either (before y x) (y ∷ merge-at before x (merge before []) ys) (x ∷ (y ∷ ys)) (h .0, all-insert before x ys p (h .1)) (p, h)
-
-  all-without : (key : A → ℕ) (k : ℕ) (xs : List A) → All P xs → All P (without key k xs)
-  all-without key k [] h = tt
-  all-without key k (x ∷ xs) h = elim (eqb (key x) k) as (λ b. All P (cond b xs (x ∷ without key k xs))) [ true ↦ h .1 | false ↦ (h .0, all-without key k xs (h .1)) ]
 
 abbrev pub Late : ℕ → Entry Event → Type 0
 Late t e = t ≤ e .element .time

@@ -4,3 +4,5 @@ pub mod Stops
 pub mod Closings
 pub mod Entries
 pub mod Times
+pub mod History
+pub mod Whereabouts

@@ -16,3 +16,7 @@ pub mod Orders
 pub mod Hands
 pub mod Unchanged
 pub mod Spending
+pub mod Holding
+pub mod Fronts
+pub mod Withdrawing
+pub mod Melding

@@ -8,13 +8,13 @@ use native.Mathlib.Nat.{add-zero, zero-add}
 use native.Mathlib.Omega.{arith}
 use lib.Dec.{eqb}
 use lib.ListN.{length, getD, set}
-use Rattle.std.specs.shelf.Lists.{sumBy}
+use Rattle.std.specs.shelf.Lists.{All, sumBy}
 use Rattle.std.specs.declared.option.Option.{Option}
 use Rattle.std.specs.declared.option.Option.the-variants.{Some, None}
 use Rattle.std.specs.declared.result.Result.the-variants.{Ok}
 use Rattle.std.proofs.shelf.Lists.{length-set, getD-set-other}
 use Rattle.std.proofs.shelf.Sums.{sumBy-cons}
-use Rattle.std.proofs.shelf.Tests.{cases-bool, cond-true, cond-false, eqb-true}
+use Rattle.std.proofs.shelf.Tests.{cases-bool, cond-true, cond-false, eqb-true, eq-eqb, ne-eqb}
 use Rattle.elements.specs.declared.entries.Entry.{Entry}
 use Rattle.elements.specs.Order.{precedes-by, stamp-of}
 use Rattle.stores.specs.SortedLists.{merge, insert, has, without}
@@ -143,3 +143,36 @@ module _ {T : Type 0} where
       go : (o : Option ℕ) → queue-with k (s .lists) 0 ≡ o → Leaves s (cancel-after s k (found 0 o)) k
       go None e = absurd (omega (arith, h, none-from k 0 (s .lists) e))
       go (Some q) e = found-leaves s k q e
+
+  pub sum-none : (f : Entry T → ℕ) → ((e : Entry T) → f e ≡ 0) → (xs : List (Entry T)) → sumBy f xs ≡ 0
+  sum-none f h [] = refl
+  sum-none f h (x ∷ xs) = omega (arith, h x, sum-none f h xs, sumBy-cons f x xs)
+
+  pub sum-alike : (f g : Entry T → ℕ) → ((e : Entry T) → f e ≡ g e) → (xs : List (Entry T)) → sumBy f xs ≡ sumBy g xs
+  sum-alike f g h [] = refl
+  sum-alike f g h (x ∷ xs) = omega (arith, h x, sum-alike f g h xs, sumBy-cons f x xs, sumBy-cons g x xs)
+
+  abbrev pub only-in : ℕ → (Entry T → ℕ) → ℕ → Entry T → ℕ
+  only-in k f q e = cond (eqb q k) (f e) 0
+
+  only-above : (k : ℕ) (f : Entry T → ℕ) (o : ℕ) (xss : List (List (Entry T))) → k < o → total-from (only-in k f) o xss ≡ 0
+  only-above k f o [] lt = refl
+  only-above k f o (xs ∷ xss) lt = omega (arith, sum-none (only-in k f o) (λ e. cond-false (eqb o k) (f e) 0 (ne-eqb o k (λ p. omega arith))) xs, only-above k f (o + 1) xss (omega arith))
+
+  only-from : (k : ℕ) (f : Entry T → ℕ) (d o : ℕ) (xss : List (List (Entry T))) → k ≡ o + d → total-from (only-in k f) o xss ≡ sumBy f (getD xss d [])
+  only-from k f d o [] p = refl
+  only-from k f zero o (xs ∷ xss) p = omega (arith, sum-alike (only-in k f o) f (λ e. cond-true (eqb o k) (f e) 0 (eq-eqb o k (omega arith))) xs, only-above k f (o + 1) xss (omega arith))
+  only-from k f (suc d) o (xs ∷ xss) p = omega (arith, sum-none (only-in k f o) (λ e. cond-false (eqb o k) (f e) 0 (ne-eqb o k (λ q. omega arith))) xs, only-from k f d (o + 1) xss (omega arith))
+
+  -- what counts in queue k alone
+  pub only-at : (k : ℕ) (f : Entry T → ℕ) (s : State T) → total (only-in k f) s ≡ sumBy f (list-of s k)
+  only-at k f s = only-from k f k 0 (s .lists) (omega arith)
+
+  -- what counts is somewhere in the list
+  pub find : (P : Entry T → Type 0) (f : Entry T → ℕ) (xs : List (Entry T)) → All P xs → 1 ≤ sumBy f xs → (y : Entry T) × P y × (1 ≤ f y)
+  find P f [] h le = absurd (omega arith)
+  find P f (x ∷ xs) h le = go (f x) refl (find P f xs (h .1))
+    where
+      go : (n : ℕ) → f x ≡ n → (1 ≤ sumBy f xs → (y : Entry T) × P y × (1 ≤ f y)) → (y : Entry T) × P y × (1 ≤ f y)
+      go zero e ih = ih (omega (arith, le, e, sumBy-cons f x xs))
+      go (suc n) e ih = (x, h .0, omega (arith, e))

@@ -119,7 +119,7 @@ line-left l r k j x ne = record {
     none s q = ap (λ y. cond (eqb (x .queue) q) (cond (eqb (x .entry .stamp) s) y 0) 0) (other (x .entry .element .order) j ne) ∙ grind (arith, tells)
 
 -- the front of a queue leaves it
-pub front-leaves : {T : Type 0} (s : State T) (q : ℕ) (e : Entry T) → front (list-of s q) ≡ Some e → Leaves s (take-after s q (Ok (Some e))) (e .stamp)
+abbrev pub front-leaves : {T : Type 0} (s : State T) (q : ℕ) (e : Entry T) → front (list-of s q) ≡ Some e → Leaves s (take-after s q (Ok (Some e))) (e .stamp)
 front-leaves s q e p = record { entry = e; queue = q; stamp = refl; total = λ f. total-take f s q e p }
 
 -- a record that tells nothing of order j

@@ -21,7 +21,7 @@ use Rattle.machine_laws.proofs.Orders.{Hand, In-hand, Out, Apart, stale, pendi
 -- order i changes its state, in a network with the same declared orders
 pub record Marks (i : ℕ) (st : OrderState) (a b : Network) : Type 0 where
   pub orders : b .orders ≡ set (a .orders) i (with-state (order a i) st)
-  pub declared : b .declared ≡ a .declared
+  pub declared : b .declared .orders ≡ a .declared .orders
 
 module _ {A : Type 0} where
   take-set : (n : ℕ) (xs : List A) (i : ℕ) (a : A) → take n (set xs i a) ≡ set (take n xs) i a
@@ -44,7 +44,7 @@ module _ (i : ℕ) (st : OrderState) (a b : Network) (k : Marks i st a b) (lt : 
 
   pub pending-marked : pending b + pending-in (order a i .state) ≡ pending a + pending-in st
   pending-marked =
-      let e : declared-orders b ≡ take (a .declared .orders) (set (a .orders) i (with-state (order a i) st)) = λ j. take (k .declared j .orders) (k .orders j) in
+      let e : declared-orders b ≡ take (a .declared .orders) (set (a .orders) i (with-state (order a i) st)) = λ j. take (k .declared j) (k .orders j) in
       omega (arith, ap (sumBy (λ (o : Order). pending-in (o .state))) e, sum-take-set (λ (o : Order). pending-in (o .state)) (a .declared .orders) (a .orders) i (with-state (order a i) st) no-order lt few)
 
 pub state-there : (i : ℕ) (st : OrderState) (a b : Network) → Marks i st a b → (j : ℕ) → (j ≡ i → ⊥) → order b j .state ≡ order a j .state
@@ -74,7 +74,7 @@ spend i st x h n m v xi o few k z f same here =
 pub hold : (x : Hand) (h : List Hand) (n p : ℕ) (m v : Machine) → Out h (x .order) → Orders h n m → v .network ≡ m .network → n ≡ p + pending-in (order (m .network) (x .order) .state) → Stays m v → ((j : ℕ) → (j ≡ x .order → ⊥) → Same m v j) → In-hand v x → Orders (x ∷ h) p v
 hold x h n p m v out o e a f same here = record {
     pending = ap pending e ∙ (omega (arith, o .pending, a) ∙ ap (λ w. p + stale w (x ∷ h)) (sym e));
-    hand = (here, hands-same m v (x .order) h (ap (λ w. w .declared) e) same out (o .hand));
+    hand = (here, hands-same m v (x .order) h (ap (λ w. w .declared .orders) e) same out (o .hand));
     apart = (out, o .apart);
-    fits = λ j q. subst (λ w. Fits v j (order w j .state)) (sym e) (fits-same m v j (order (m .network) j .state) (ap (λ w. w .declared) e) f (same j (λ r. q .0 (sym r))) (o .fits j (q .1)));
+    fits = λ j q. subst (λ w. Fits v j (order w j .state)) (sym e) (fits-same m v j (order (m .network) j .state) (ap (λ w. w .declared .orders) e) f (same j (λ r. q .0 (sym r))) (o .fits j (q .1)));
   }

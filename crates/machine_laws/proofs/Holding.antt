@@ -33,19 +33,20 @@ use Rattle.machine.specs.Network.{no-order, order, line-entry}
 use Rattle.machine.specs.Machine.{Machine, with-instant, with-events, less-one, tell}
 use Rattle.machine.specs.Closing.{declared-orders}
 use Rattle.machine.specs.Step.{next-event, take-event, line, take-line}
+use Rattle.machine_laws.specs.Arrivals.{is-arrival}
 use Rattle.machine_laws.specs.Entries.{total}
 use Rattle.machine_laws.specs.History.{place-after, place}
 use Rattle.machine_laws.specs.Whereabouts.{one, arrives, arrival-of, ends, finish-of, finish-with, wait-of, wait-with, Spot}
 use Rattle.machine_laws.proofs.Elements.{all-get}
 use Rattle.machine_laws.proofs.Totalling.{total-le, Leaves}
 use Rattle.machine_laws.proofs.Histories.{waits, waits-push, place-push, unfinished-after, unfinished, unfinished-push, Good, good-push}
-use Rattle.machine_laws.proofs.Orders.{wait-at, is-arrival, any-arrival, pending-in, pending, Hand, In-hand, Out, Apart, stale, Fits, Ranged, Base, Orders, Same, Stays, fits-same, hand-same}
+use Rattle.machine_laws.proofs.Orders.{wait-at, any-arrival, pending-in, pending, Hand, In-hand, Out, Apart, stale, Fits, Ranged, Base, Orders, Same, Stays, fits-same, hand-same}
 use Rattle.machine_laws.proofs.Hands.{hold}
 use Rattle.machine_laws.proofs.Unchanged.{Events-same, same-by, events-kept, lines-kept, told-kept, Foreign, foreign-finish, foreign-arrival, event-left, line-left, front-leaves, Silent, told-silent, finish-silent}
 use Rattle.machine_laws.proofs.Spending.{Written}
 
 -- no order changes: the same is known of each, and the faults stay
-module _ (h : List Hand) (n : ℕ) (m v : Machine) (os : v .network .orders ≡ m .network .orders) (d : v .network .declared ≡ m .network .declared) where
+module _ (h : List Hand) (n : ℕ) (m v : Machine) (os : v .network .orders ≡ m .network .orders) (d : v .network .declared .orders ≡ m .network .declared .orders) where
   stale-kept : (g : List Hand) → stale (v .network) g ≡ stale (m .network) g
   stale-kept [] = refl
   stale-kept (x ∷ g) = λ j. pending-in (getD (os j) (x .order) no-order .state) + stale-kept g j
@@ -56,7 +57,7 @@ module _ (h : List Hand) (n : ℕ) (m v : Machine) (os : v .network .orders ≡ 
 
   pub carry : Stays m v → ((j : ℕ) → Same m v j) → Orders h n m → Orders h n v
   carry f s o = record {
-      pending = (λ j. sumBy (λ (x : Order). pending-in (x .state)) (take (d j .orders) (os j))) ∙ o .pending ∙ ap (λ y. n + y) (sym (stale-kept h));
+      pending = (λ j. sumBy (λ (x : Order). pending-in (x .state)) (take (d j) (os j))) ∙ o .pending ∙ ap (λ y. n + y) (sym (stale-kept h));
       hand = hands-kept h s (o .hand);
       apart = o .apart;
       fits = λ j q. subst (λ xs. Fits v j (getD xs j no-order .state)) (sym os) (fits-same m v j (order (m .network) j .state) d f (s j) (o .fits j q));
@@ -65,13 +66,13 @@ module _ (h : List Hand) (n : ℕ) (m v : Machine) (os : v .network .orders ≡ 
   pub base-kept : (who : ℕ → LineEntry) (p : ℕ) → Base who n m → All (All (Written who)) (v .lines .state .lists) → waits (v .records) ≡ v .lines .state .next → Good who (v .records) → total any-arrival (v .events .state) ≡ p → All (All Ranged) (v .events .state .lists) → Base who p v
   base-kept who p b w s g l z = record {
       size = ap length os ∙ b .size;
-      few = subst (λ x. x .orders ≤ 1024) (sym d) (b .few);
+      few = subst (λ x. x ≤ 1024) (sym d) (b .few);
       known = λ j. ap (λ xs. record { order = j; urgency = getD xs j no-order .urgency; due = getD xs j no-order .due }) os ∙ b .known j;
       written = w;
       stamped = s;
       good = g;
       left = l;
-      undeclared = λ j q. ap (λ xs. getD xs j no-order .state) os ∙ b .undeclared j (subst (λ x. x .orders ≤ j) d q);
+      undeclared = λ j q. ap (λ xs. getD xs j no-order .state) os ∙ b .undeclared j (subst (λ x. x ≤ j) d q);
       ranged = z;
     }
 

@@ -20,3 +20,5 @@ pub mod Holding
 pub mod Fronts
 pub mod Withdrawing
 pub mod Melding
+pub mod OrderedSteps
+pub mod OrderedEvents

@@ -25,6 +25,7 @@ use Rattle.machine.specs.declared.records.Fault.{Fault}
 use Rattle.machine.specs.Network.{no-order, order, with-state, line-entry}
 use Rattle.machine.specs.Machine.{Machine}
 use Rattle.machine.specs.Closing.{one-in, declared-orders}
+use Rattle.machine_laws.specs.Arrivals.{is-arrival}
 use Rattle.machine_laws.specs.Entries.{total}
 use Rattle.machine_laws.specs.History.{Place, place}
 use Rattle.machine_laws.specs.Whereabouts.{one, arrival-of, finish-of, finish-with, wait-of, wait-with, Spot}
@@ -35,12 +36,6 @@ abbrev pub wait-at : ℕ → ℕ → ℕ → ℕ → Entry LineEntry → ℕ
 wait-at i s k q e = cond (eqb q k) (wait-with i s q e) 0
 
 -- any arrival
-abbrev pub is-arrival : EventKind → ℕ
-is-arrival (Arrive j k) = 1
-is-arrival (Finish j k) = 0
-is-arrival (Withdraw j) = 0
-is-arrival (Close k j) = 0
-
 abbrev pub any-arrival : ℕ → Entry Event → ℕ
 any-arrival q e = is-arrival (e .element .kind)
 
@@ -137,8 +132,8 @@ settled-same m v i s p = (s .unfinished ∙ p .0, s .place ∙ p .1)
 abbrev pub Stays : Machine → Machine → Type 0
 Stays m v = (m .fault ≡ None → ⊥) → v .fault ≡ None → ⊥
 
-pub fits-same : (m v : Machine) (i : ℕ) (st : OrderState) → v .network .declared ≡ m .network .declared → Stays m v → Same m v i → Fits m i st → Fits v i st
-fits-same m v i NotYet d f s p = (subst (λ x. Spot v i (one (ltb i (x .orders))) 0 0) (sym d) (spot-same m v i _ 0 0 s (p .0)), settled-same m v i s (p .1))
+pub fits-same : (m v : Machine) (i : ℕ) (st : OrderState) → v .network .declared .orders ≡ m .network .declared .orders → Stays m v → Same m v i → Fits m i st → Fits v i st
+fits-same m v i NotYet d f s p = (subst (λ x. Spot v i (one (ltb i x)) 0 0) (sym d) (spot-same m v i _ 0 0 s (p .0)), settled-same m v i s (p .1))
 fits-same m v i (Waiting t) d f s p = (spot-same m v i 0 0 1 s (p .0), (p .1 .0, s .unfinished ∙ p .1 .1, s .place ∙ p .1 .2, omega (arith, p .1 .3, s .lines t (p .1 .0))))
 fits-same m v i (InService k t) d f s p = (spot-same m v i 0 1 0 s (p .0), (s .place ∙ p .1 .0, omega (arith, p .1 .1, s .benches k t)))
 fits-same m v i Done d f s p = (spot-same m v i 0 0 0 s (p .0), settled-same m v i s (p .1))
@@ -146,14 +141,14 @@ fits-same m v i Away d f s p = (spot-same m v i 0 0 0 s (p .0), settled-same m v
 fits-same m v i Withdrawn d f s p = (spot-same m v i 0 0 0 s (p .0), s .place ∙ p .1)
 fits-same m v i Stranded d f s p = (spot-same m v i 0 0 0 s (p .0), f (p .1))
 
-pub hand-same : (m v : Machine) (x : Hand) → v .network .declared ≡ m .network .declared → Same m v (x .order) → In-hand m x → In-hand v x
+pub hand-same : (m v : Machine) (x : Hand) → v .network .declared .orders ≡ m .network .declared .orders → Same m v (x .order) → In-hand m x → In-hand v x
 hand-same m v x d s p = record {
-    declared = subst (λ y. x .order < y .orders) (sym d) (p .declared);
+    declared = subst (λ y. x .order < y) (sym d) (p .declared);
     spot = spot-same m v (x .order) 0 0 0 s (p .spot);
     place = s .place ∙ p .place;
     unfinished = s .unfinished ∙ p .unfinished;
   }
 
-pub hands-same : (m v : Machine) (i : ℕ) (h : List Hand) → v .network .declared ≡ m .network .declared → ((j : ℕ) → (j ≡ i → ⊥) → Same m v j) → Out h i → All (In-hand m) h → All (In-hand v) h
+pub hands-same : (m v : Machine) (i : ℕ) (h : List Hand) → v .network .declared .orders ≡ m .network .declared .orders → ((j : ℕ) → (j ≡ i → ⊥) → Same m v j) → Out h i → All (In-hand m) h → All (In-hand v) h
 hands-same m v i [] d s o p = tt
 hands-same m v i (x ∷ h) d s o p = (hand-same m v x d (s (x .order) (o .0)) (p .0), hands-same m v i h d s (o .1) (p .1))

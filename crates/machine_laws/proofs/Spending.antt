@@ -41,7 +41,7 @@ use Rattle.machine_laws.proofs.Totalling.{total-put}
 use Rattle.machine_laws.proofs.Histories.{waits, waits-push, place-push, unfinished, unfinished-push, Fair, Allowed, Good, good-push}
 use Rattle.machine_laws.proofs.Orders.{wait-at, any-arrival, pending-in, Hand, In-hand, Out, Fits, Ranged, Base, Orders, Same, Stays, fits-same, hand-same}
 use Rattle.machine_laws.proofs.Hands.{Marks, state-there, spend}
-use Rattle.machine_laws.proofs.Unchanged.{same-by, events-kept, lines-kept, told-kept, finish-put, line-put, Silent, told-silent, start-silent, wait-silent, away-silent, done-silent}
+use Rattle.machine_laws.proofs.Unchanged.{same-by, events-kept, lines-kept, told-kept, foreign-finish, event-put, line-put, Silent, told-silent, start-silent, wait-silent, away-silent, done-silent}
 
 abbrev pub Written : (ℕ → LineEntry) → Entry LineEntry → Type 0
 Written who e = e .element ≡ who (e .element .order)
@@ -61,13 +61,13 @@ module _ (who : ℕ → LineEntry) (n : ℕ) (m v : Machine) where
   pub base-marked : (i : ℕ) (st : OrderState) → i < m .network .declared .orders → Base who n m → Marks i st (m .network) (v .network) → All (All (Written who)) (v .lines .state .lists) → waits (v .records) ≡ v .lines .state .next → Good who (v .records) → total any-arrival (v .events .state) ≡ n → All (All Ranged) (v .events .state .lists) → Base who n v
   base-marked i st lt b k w s g l z = record {
       size = marks-size i st (m .network) (v .network) k ∙ b .size;
-      few = subst (λ d. d .orders ≤ 1024) (sym (k .declared)) (b .few);
+      few = subst (λ d. d ≤ 1024) (sym (k .declared)) (b .few);
       known = λ j. marks-known i st (m .network) (v .network) k j ∙ b .known j;
       written = w;
       stamped = s;
       good = g;
       left = l;
-      undeclared = λ j h. state-there i st (m .network) (v .network) k j (λ e. absurd (omega (arith, lt, h, ap (λ d. d .orders) (k .declared), e))) ∙ b .undeclared j (subst (λ d. d .orders ≤ j) (k .declared) h);
+      undeclared = λ j h. state-there i st (m .network) (v .network) k j (λ e. absurd (omega (arith, lt, h, k .declared, e))) ∙ b .undeclared j (subst (λ d. d ≤ j) (k .declared) h);
       ranged = z;
     }
 
@@ -109,7 +109,7 @@ module _ (who : ℕ → LineEntry) (i k n : ℕ) (x : Hand) (h : List Hand) (m :
 
     pub start-orders : Orders h n begun
     start-orders = spend i (InService k (m .events .state .next)) x h n m begun xi o (roomy who n m b) marks refl (λ f q. f q)
-        (λ j ne. same-by m begun j (finish-put (m .events .state) _ i k (m .events .state .next) j inside ne) (lines-kept (m .lines .state) j) (told-silent (m .records) _ j (start-silent i k j ne)))
+        (λ j ne. same-by m begun j (event-put (m .events .state) _ (m .events .state .next) j inside (foreign-finish i k j ne)) (lines-kept (m .lines .state) j) (told-silent (m .records) _ j (start-silent i k j ne)))
         (
           record { arrivals = puts (arrival-of i) ∙ omega (arith, spot-in .arrivals); finishes = puts (finish-of i) ∙ omega (arith, spot-in .finishes, ap one (same-number i)); waits = spot-in .waits },
           (place-push i (m .records) _ ∙ ap (λ t. cond t None (place i (m .records))) (same-number i), omega (arith, puts (finish-with i k (m .events .state .next)), here)),

@@ -82,10 +82,10 @@ sound-taken m e p h =
         stamps = h .stamps;
       })
 
-record Timed (m : Machine) : Type 0 where
-  sound : Sound m
+pub record Timed (m : Machine) : Type 0 where
+  pub sound : Sound m
   -- while forms are taken
-  draft : m .end ≡ None → m .instant ≡ 0
+  pub draft : m .end ≡ None → m .instant ≡ 0
 
 -- a step that takes an event
 pub stepped : (m : Machine) (x : Event) → due-event m ≡ Some x → Sound m → Sound (step-by (Some x) (with-refusal m None))
@@ -135,11 +135,11 @@ form-timed f m h = go (form-refusal f m) refl
     go None p = accept-timed f (with-refusal m None) (in-draft (m .end) (form-in-place f m) (in-range f) (names-declared f (m .network)) p) (record { sound = h .sound; draft = h .draft })
     go (Some r) p = record { sound = h .sound; draft = h .draft }
 
-call-timed : (x : Call) (m : Machine) → Timed m → Timed (call x m)
+pub call-timed : (x : Call) (m : Machine) → Timed m → Timed (call x m)
 call-timed (a-form f) m h = form-timed f m h
 call-timed a-step m h = step-timed m h
 
-first-timed : (e l : Bounds) (c : Option ℕ) → Timed (start-machine e l c)
+pub first-timed : (e l : Bounds) (c : Option ℕ) → Timed (start-machine e l c)
 first-timed e l c = record {
     sound = record { events-tidy = tidy-fresh event-le; lines-tidy = tidy-fresh line-le; late = tt; rising = tt; past = tt; spent = omega arith; stamps = omega arith };
     draft = λ q. refl;

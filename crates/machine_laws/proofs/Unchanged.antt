@@ -57,30 +57,7 @@ told-kept r i = record { place = refl; unfinished = refl }
 other : (i j : ℕ) → (j ≡ i → ⊥) → one (eqb i j) ≡ 0
 other i j ne = ap one (ne-eqb i j (λ e. ne (sym e)))
 
--- the finish of order i is put
-pub finish-put : (e : State Event) (t i k n j : ℕ) → 0 < length (e .lists) → (j ≡ i → ⊥) → Events-same e (put-after event-le e 0 (record { time = t; kind = Finishing i k }) (Ok n)) j
-finish-put e t i k n j lt ne = record {
-    arrivals = omega (arith, put (arrival-of j));
-    finishes = omega (arith, put (finish-of j), other i j ne);
-    benches = λ l s. omega (arith, put (finish-with j l s), none l s);
-  }
-  where
-    put : (f : ℕ → Entry Event → ℕ) → total f (put-after event-le e 0 (record { time = t; kind = Finishing i k }) (Ok n)) ≡ total f e + f 0 (record { element = record { time = t; kind = Finishing i k }; stamp = n })
-    put f = total-put f event-le e 0 (record { time = t; kind = Finishing i k }) n lt
-    none : (l s : ℕ) → finish-with j l s 0 (record { element = record { time = t; kind = Finishing i k }; stamp = n }) ≡ 0
-    none l s = let z = ne-eqb i j (λ p. ne (sym p)) in ap (λ b. cond (eqb n s) (one (b && eqb k l)) 0) z ∙ grind (arith, tells)
-
--- order i is put in line q
-pub line-put : (l : State LineEntry) (q n j : ℕ) (x : LineEntry) → q < length (l .lists) → (j ≡ x .order → ⊥) → Lines-same l (put-after line-le l q x (Ok n)) j
-line-put l q n j x lt ne = record {
-    waits = omega (arith, total-put (wait-of j) line-le l q x n lt, other (x .order) j ne);
-    lines = λ s k. omega (arith, total-put (wait-at j s k) line-le l q x n lt, none s k);
-  }
-  where
-    none : (s k : ℕ) → wait-at j s k q (record { element = x; stamp = n }) ≡ 0
-    none s k = ap (λ y. cond (eqb q k) (cond (eqb n s) y 0) 0) (other (x .order) j ne) ∙ grind (arith, tells)
-
--- an entry leaves that is not of order j
+-- an event that is no arrival or finish of order j
 pub record Foreign (j : ℕ) (x : EventKind) : Type 0 where
   pub arrives : arrives j x ≡ 0
   pub ends : ends j x ≡ 0
@@ -98,16 +75,38 @@ foreign-withdrawal i j = record { arrives = refl; ends = refl; ends-at = λ l. r
 pub foreign-closing : (k l j : ℕ) → Foreign j (Closing k l)
 foreign-closing k l j = record { arrives = refl; ends = refl; ends-at = λ q. refl }
 
+neither : (b : Bool) → _≡_ {A = ℕ} (cond b 0 0) 0
+neither true = refl
+neither false = refl
+
+-- such an event is put
+pub event-put : (e : State Event) (x : Event) (n j : ℕ) → 0 < length (e .lists) → Foreign j (x .kind) → Events-same e (put-after event-le e 0 x (Ok n)) j
+event-put e x n j lt h = record {
+    arrivals = omega (arith, put (arrival-of j), h .arrives);
+    finishes = omega (arith, put (finish-of j), h .ends);
+    benches = λ l s. omega (arith, put (finish-with j l s), ap (λ y. cond (eqb n s) y 0) (h .ends-at l) ∙ neither (eqb n s));
+  }
+  where
+    put : (f : ℕ → Entry Event → ℕ) → total f (put-after event-le e 0 x (Ok n)) ≡ total f e + f 0 (record { element = x; stamp = n })
+    put f = total-put f event-le e 0 x n lt
+
+-- order i is put in line q
+pub line-put : (l : State LineEntry) (q n j : ℕ) (x : LineEntry) → q < length (l .lists) → (j ≡ x .order → ⊥) → Lines-same l (put-after line-le l q x (Ok n)) j
+line-put l q n j x lt ne = record {
+    waits = omega (arith, total-put (wait-of j) line-le l q x n lt, other (x .order) j ne);
+    lines = λ s k. omega (arith, total-put (wait-at j s k) line-le l q x n lt, none s k);
+  }
+  where
+    none : (s k : ℕ) → wait-at j s k q (record { element = x; stamp = n }) ≡ 0
+    none s k = ap (λ y. cond (eqb q k) (cond (eqb n s) y 0) 0) (other (x .order) j ne) ∙ grind (arith, tells)
+
+-- an entry leaves that is not of order j
 pub event-left : (e f : State Event) (k j : ℕ) (x : Leaves e f k) → Foreign j (x .entry .element .kind) → Events-same e f j
 event-left e f k j x h = record {
     arrivals = omega (arith, x .total (arrival-of j), h .arrives);
     finishes = omega (arith, x .total (finish-of j), h .ends);
     benches = λ l s. omega (arith, x .total (finish-with j l s), ap (λ n. cond (eqb (x .entry .stamp) s) n 0) (h .ends-at l) ∙ neither (eqb (x .entry .stamp) s));
   }
-  where
-    neither : (b : Bool) → _≡_ {A = ℕ} (cond b 0 0) 0
-    neither true = refl
-    neither false = refl
 
 pub line-left : (l r : State LineEntry) (k j : ℕ) (x : Leaves l r k) → (j ≡ x .entry .element .order → ⊥) → Lines-same l r j
 line-left l r k j x ne = record {

@@ -28,6 +28,7 @@ use Rattle.machine.specs.declared.records.RecordKind.the-variants.{Withdrawn}
 use Rattle.machine.specs.Network.{order}
 use Rattle.machine.specs.Machine.{Machine, with-network, tell}
 use Rattle.machine.specs.Step.{cancel-event, cancel-line}
+use Rattle.machine_laws.specs.Arrivals.{is-arrival}
 use Rattle.machine_laws.specs.Entries.{total}
 use Rattle.machine_laws.specs.History.{place}
 use Rattle.machine_laws.specs.Whereabouts.{one, arrives, arrival-of, ends, finish-of, ends-at, finish-with, wait-of, Spot}
@@ -35,7 +36,7 @@ use Rattle.machine_laws.proofs.Elements.{all-get, all-without}
 use Rattle.machine_laws.proofs.Totalling.{stamp-is, total-le, Leaves, cancel-leaves}
 use Rattle.machine_laws.proofs.TidyStores.{Tidy}
 use Rattle.machine_laws.proofs.Histories.{waits, waits-push, place-push, unfinished, good-push}
-use Rattle.machine_laws.proofs.Orders.{wait-at, is-arrival, any-arrival, pending-in, Hand, In-hand, Fits, Ranged, Base, Orders, Same}
+use Rattle.machine_laws.proofs.Orders.{wait-at, any-arrival, pending-in, Hand, In-hand, Fits, Ranged, Base, Orders, Same}
 use Rattle.machine_laws.proofs.Hands.{Marks, spend, hold}
 use Rattle.machine_laws.proofs.Unchanged.{same-by, events-kept, lines-kept, told-kept, foreign-finish, Foreign, event-left, line-left, told-silent, withdrawn-silent}
 use Rattle.machine_laws.proofs.Spending.{Written, base-marked, roomy}

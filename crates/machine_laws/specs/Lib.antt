@@ -6,3 +6,4 @@ pub mod Entries
 pub mod Times
 pub mod History
 pub mod Whereabouts
+pub mod Arrivals

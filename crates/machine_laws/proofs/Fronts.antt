@@ -1,12 +1,10 @@
 -- The front of a line is taken in hand: nobody who waits there precedes it.
 use mathlib.Core.Path.{_≡_, refl, sym, ap, subst, _∙_}
-use mathlib.Core.Bool.{Bool, true, false, cond}
+use mathlib.Core.Bool.{true, false, cond}
 use mathlib.Core.List.{List, [], _∷_}
-use mathlib.Core.Logic.{_⊎_, inl, inr}
-use Prim.Native.Nat.{ℕ, _+_, _≤_, _<_}
+use Prim.Native.Nat.{ℕ, _+_, _≤_}
 use native.Mathlib.Omega.{arith}
 use lib.Dec.{eqb}
-use lib.ListN.{length, getD, set}
 use Rattle.std.specs.shelf.Lists.{All, sumBy}
 use Rattle.std.specs.declared.option.Option.{Option}
 use Rattle.std.specs.declared.option.Option.the-variants.{Some, None}
@@ -19,8 +17,8 @@ use Rattle.elements.specs.declared.entries.Entry.{Entry}
 use Rattle.elements.specs.Elements.{line-le}
 use Rattle.elements.specs.Order.{precedes-by, stamp-of}
 use Rattle.stores.specs.SortedLists.{Sorted}
-use Rattle.stores.specs.Meaning.{State, list-of}
-use Rattle.stores.specs.Calls.{take-after, front, rest}
+use Rattle.stores.specs.Meaning.{list-of}
+use Rattle.stores.specs.Calls.{take-after, front}
 use Rattle.stores.proofs.Removing.{front-before}
 use Rattle.machine.specs.declared.networks.OrderState.{OrderState}
 use Rattle.machine.specs.declared.networks.OrderState.the-variants.{NotYet, Waiting, InService, Done as is-done, Away as is-away, Withdrawn as is-withdrawn, Stranded}
@@ -29,7 +27,7 @@ use Rattle.machine.specs.Machine.{Machine, with-lines, less-one}
 use Rattle.machine.specs.Step.{line, take-line}
 use Rattle.machine_laws.specs.Entries.{total}
 use Rattle.machine_laws.specs.History.{Place, place}
-use Rattle.machine_laws.specs.Whereabouts.{one, wait-of, wait-with, Spot}
+use Rattle.machine_laws.specs.Whereabouts.{one, wait-of, wait-with}
 use Rattle.machine_laws.proofs.Elements.{all-get}
 use Rattle.machine_laws.proofs.Totalling.{total-le, only-at, find}
 use Rattle.machine_laws.proofs.TidyStores.{Tidy, sorted-at}

@@ -1,22 +1,21 @@
 -- An order is taken in hand, or spent.
 use mathlib.Core.Path.{_≡_, refl, sym, ap, subst, _∙_}
-use mathlib.Core.Bool.{Bool, true, false}
 use mathlib.Core.List.{List, [], _∷_}
 use mathlib.Core.Logic.{_⊎_, inl, inr}
 use Prim.Native.Nat.{ℕ, zero, suc, _+_, _≤_, _<_}
 use native.Mathlib.Omega.{arith}
 use lib.ListN.{length, getD, set, take}
-use Rattle.std.specs.shelf.Lists.{All, sumBy}
+use Rattle.std.specs.shelf.Lists.{sumBy}
 use Rattle.std.proofs.shelf.Lists.{length-take-le, getD-set-same, getD-set-other, getD-take}
 use Rattle.std.proofs.shelf.Sums.{sumBy-set}
 use Rattle.std.proofs.shelf.Tests.{cases-eq}
 use Rattle.machine.specs.declared.networks.Order.{Order}
 use Rattle.machine.specs.declared.networks.Network.{Network}
 use Rattle.machine.specs.declared.networks.OrderState.{OrderState}
-use Rattle.machine.specs.Network.{no-order, order, with-state, marked}
+use Rattle.machine.specs.Network.{no-order, order, with-state}
 use Rattle.machine.specs.Machine.{Machine}
 use Rattle.machine.specs.Closing.{declared-orders}
-use Rattle.machine_laws.proofs.Orders.{Hand, In-hand, Out, Apart, stale, pending-in, pending, Fits, Orders, Same, Stays, fits-same, hands-same}
+use Rattle.machine_laws.proofs.Orders.{Hand, In-hand, Out, stale, pending-in, pending, Fits, Orders, Same, Stays, fits-same, hands-same}
 
 -- order i changes its state, in a network with the same declared orders
 pub record Marks (i : ℕ) (st : OrderState) (a b : Network) : Type 0 where

@@ -3,14 +3,13 @@ use mathlib.Core.Path.{_≡_, refl, sym, ap, subst, _∙_}
 use mathlib.Core.Bool.{Bool, true, false, cond, _||_}
 use mathlib.Core.List.{List, [], _∷_, _++_}
 use Prim.Native.Nat.{ℕ, _+_}
-use native.Mathlib.Nat.{add-assoc, add-zero, zero-add}
+use native.Mathlib.Nat.{add-zero, zero-add}
 use native.Mathlib.Omega.{arith}
 use lib.Dec.{eqb}
 use Rattle.std.specs.shelf.Lists.{sumBy}
 use Rattle.std.specs.declared.option.Option.the-variants.{Some, None}
 use Rattle.std.proofs.shelf.Sums.{sumBy-cons, sumBy-push}
 use Rattle.elements.specs.declared.lines.LineEntry.{LineEntry}
-use Rattle.elements.specs.declared.entries.Entry.{Entry}
 use Rattle.elements.specs.Elements.{line-le}
 use Rattle.elements.specs.Order.{precedes-by}
 use Rattle.machine.specs.declared.records.RecordKind.{RecordKind}
@@ -98,7 +97,7 @@ module _ (who : ℕ → LineEntry) where
   good-at xs r ys h = good-at-from 0 (λ i. None) (λ i. false) xs r ys h
 
 -- who started, and is finished later, finished in between
-finished-on : (i : ℕ) (ys : List Record) → unfinished-from i true ys ≡ false → finishes i ys ≡ true
+pub finished-on : (i : ℕ) (ys : List Record) → unfinished-from i true ys ≡ false → finishes i ys ≡ true
 finished-on i [] h = let z : _≡_ {A = ℕ} 0 1 = cc in absurd (omega arith)
 finished-on i (r ∷ ys) h = go (r .kind) h (finished-on i ys)
   where
@@ -121,6 +120,6 @@ finished-on i (r ∷ ys) h = go (r .kind) h (finished-on i ys)
     go (Close k j x) e ih = ih e
     go (Kept k j) e ih = ih e
 
-unfinished-append : (i : ℕ) (b : Bool) (xs ys : List Record) → unfinished-from i b (xs ++ ys) ≡ unfinished-from i (unfinished-from i b xs) ys
+pub unfinished-append : (i : ℕ) (b : Bool) (xs ys : List Record) → unfinished-from i b (xs ++ ys) ≡ unfinished-from i (unfinished-from i b xs) ys
 unfinished-append i b [] ys = refl
 unfinished-append i b (x ∷ xs) ys = unfinished-append i (unfinished-after i (x .kind) b) xs ys

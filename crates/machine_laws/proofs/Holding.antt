@@ -1,48 +1,40 @@
 -- Orders are taken in hand: as they arrive, finish, or leave a line.
 use mathlib.Core.Path.{_≡_, refl, sym, ap, subst, _∙_}
-use mathlib.Core.Bool.{Bool, true, false, cond, _&&_}
-use mathlib.Core.List.{List, [], _∷_, _++_}
+use mathlib.Core.Bool.{true, false, cond}
+use mathlib.Core.List.{List, [], _∷_}
 use mathlib.Core.Logic.{_⊎_, inl, inr}
 use Prim.Native.Nat.{ℕ, _+_, _≤_, _<_}
-use native.Mathlib.Nat.{le-refl}
 use native.Mathlib.Omega.{arith}
 use lib.Dec.{ltb, eqb}
-use lib.ListN.{length, getD, set, take}
+use lib.ListN.{length, getD, take}
 use Rattle.std.specs.shelf.Lists.{All, sumBy}
-use Rattle.std.specs.declared.option.Option.{Option}
 use Rattle.std.specs.declared.option.Option.the-variants.{Some, None}
 use Rattle.std.specs.declared.result.Result.the-variants.{Ok}
 use Rattle.std.proofs.shelf.Elements.{all-set}
 use Rattle.std.proofs.shelf.Tests.{cases-lt, eq-eqb}
 use Rattle.std.proofs.shelf.Ways.{tells}
 use Rattle.elements.specs.declared.events.Event.{Event}
-use Rattle.elements.specs.declared.events.EventKind.{EventKind}
-use Rattle.elements.specs.declared.events.EventKind.the-variants.{Arrive, Finish as Finishing, Withdraw, Close as Closing}
+use Rattle.elements.specs.declared.events.EventKind.the-variants.{Arrive, Finish as Finishing}
 use Rattle.elements.specs.declared.lines.LineEntry.{LineEntry}
 use Rattle.elements.specs.declared.entries.Entry.{Entry}
-use Rattle.stores.specs.Meaning.{State, list-of}
-use Rattle.stores.specs.Calls.{take-after, front, rest}
+use Rattle.stores.specs.Meaning.{list-of}
+use Rattle.stores.specs.Calls.{take-after, rest}
 use Rattle.machine.specs.declared.networks.Order.{Order}
-use Rattle.machine.specs.declared.networks.Network.{Network}
 use Rattle.machine.specs.declared.networks.OrderState.{OrderState}
 use Rattle.machine.specs.declared.networks.OrderState.the-variants.{NotYet, Waiting, InService, Done as is-done, Away as is-away, Withdrawn as is-withdrawn, Stranded}
-use Rattle.machine.specs.declared.records.RecordKind.{RecordKind}
 use Rattle.machine.specs.declared.records.RecordKind.the-variants.{Finish}
-use Rattle.machine.specs.declared.records.Record.{Record}
-use Rattle.machine.specs.Network.{no-order, order, line-entry}
+use Rattle.machine.specs.Network.{no-order, order}
 use Rattle.machine.specs.Machine.{Machine, with-instant, with-events, less-one, tell}
-use Rattle.machine.specs.Closing.{declared-orders}
-use Rattle.machine.specs.Step.{next-event, take-event, line, take-line}
+use Rattle.machine.specs.Step.{next-event, take-event}
 use Rattle.machine_laws.specs.Arrivals.{is-arrival}
 use Rattle.machine_laws.specs.Entries.{total}
-use Rattle.machine_laws.specs.History.{place-after, place}
-use Rattle.machine_laws.specs.Whereabouts.{one, arrives, arrival-of, ends, finish-of, finish-with, wait-of, wait-with, Spot}
+use Rattle.machine_laws.specs.History.{place}
+use Rattle.machine_laws.specs.Whereabouts.{one, arrives, arrival-of, ends, finish-of, wait-of, Spot}
 use Rattle.machine_laws.proofs.Elements.{all-get}
-use Rattle.machine_laws.proofs.Totalling.{total-le, Leaves}
-use Rattle.machine_laws.proofs.Histories.{waits, waits-push, place-push, unfinished-after, unfinished, unfinished-push, Good, good-push}
-use Rattle.machine_laws.proofs.Orders.{wait-at, any-arrival, pending-in, pending, Hand, In-hand, Out, Apart, stale, Fits, Ranged, Base, Orders, Same, Stays, fits-same, hand-same}
+use Rattle.machine_laws.proofs.Histories.{waits, waits-push, place-push, unfinished, unfinished-push, Good, good-push}
+use Rattle.machine_laws.proofs.Orders.{any-arrival, pending-in, pending, Hand, In-hand, Out, stale, Fits, Ranged, Base, Orders, Same, Stays, fits-same, hand-same}
 use Rattle.machine_laws.proofs.Hands.{hold}
-use Rattle.machine_laws.proofs.Unchanged.{Events-same, same-by, events-kept, lines-kept, told-kept, Foreign, foreign-finish, foreign-arrival, event-left, line-left, front-leaves, Silent, told-silent, finish-silent}
+use Rattle.machine_laws.proofs.Unchanged.{same-by, events-kept, lines-kept, told-kept, Foreign, foreign-finish, foreign-arrival, event-left, front-leaves, told-silent, finish-silent}
 use Rattle.machine_laws.proofs.Spending.{Written}
 
 -- no order changes: the same is known of each, and the faults stay

@@ -22,3 +22,7 @@ pub mod Withdrawing
 pub mod Melding
 pub mod OrderedSteps
 pub mod OrderedEvents
+pub mod OrderedForms
+pub mod OrderedCalls
+pub mod OrderedRuns
+pub mod OrderLaws

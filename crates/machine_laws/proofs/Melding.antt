@@ -1,15 +1,14 @@
 -- A station closes: whoever waits in its line waits in the other.
 use mathlib.Core.Path.{_≡_, refl, sym, ap, subst, _∙_}
-use mathlib.Core.Bool.{Bool, true, false, cond}
-use mathlib.Core.List.{List, [], _∷_, _++_}
+use mathlib.Core.Bool.{cond}
+use mathlib.Core.List.{[]}
 use mathlib.Core.Logic.{_⊎_, inl, inr}
 use Prim.Native.Nat.{ℕ, _+_, _≤_, _<_}
 use native.Mathlib.Omega.{arith}
 use lib.Dec.{eqb}
 use lib.ListN.{length, set}
 use Rattle.std.specs.shelf.Lists.{All, sumBy}
-use Rattle.std.specs.declared.option.Option.{Option}
-use Rattle.std.specs.declared.option.Option.the-variants.{Some, None}
+use Rattle.std.specs.declared.option.Option.the-variants.{None}
 use Rattle.std.specs.declared.result.Result.{Result}
 use Rattle.std.specs.declared.result.Result.the-variants.{Ok}
 use Rattle.std.proofs.shelf.Elements.{all-set}
@@ -34,7 +33,6 @@ use Rattle.machine_laws.specs.History.{moved, place}
 use Rattle.machine_laws.specs.Whereabouts.{wait-of, wait-with, Spot}
 use Rattle.machine_laws.proofs.Elements.{all-get, all-merge}
 use Rattle.machine_laws.proofs.Totalling.{total-meld, sum-none, sum-alike, only-at}
-use Rattle.machine_laws.proofs.TidyStores.{Tidy}
 use Rattle.machine_laws.proofs.Histories.{waits-push, place-push, unfinished-push, good-push}
 use Rattle.machine_laws.proofs.Orders.{wait-at, Fits, Base, Orders}
 use Rattle.machine_laws.proofs.Spending.{Written}

@@ -1,12 +1,10 @@
 -- Every event keeps what holds of the orders.
 use mathlib.Core.Path.{_≡_, refl, sym, ap, subst, _∙_}
 use mathlib.Core.Bool.{Bool, true, false, _||_}
-use mathlib.Core.List.{List, [], _∷_, _++_}
-use mathlib.Core.Logic.{_⊎_, inl, inr}
-use Prim.Native.Nat.{ℕ, zero, suc, _+_, _≤_, _<_}
+use mathlib.Core.List.{List, [], _∷_}
+use Prim.Native.Nat.{ℕ, zero, suc, _+_, _<_}
 use native.Mathlib.Omega.{arith}
 use lib.Dec.{eqb}
-use lib.ListN.{length}
 use Rattle.std.specs.shelf.Lists.{All}
 use Rattle.std.specs.declared.option.Option.{Option}
 use Rattle.std.specs.declared.option.Option.the-variants.{Some, None}
@@ -25,8 +23,8 @@ use Rattle.machine.specs.declared.records.RecordKind.{RecordKind}
 use Rattle.machine.specs.declared.records.RecordKind.the-variants.{Withdrawn, Missed, Finish, Close, Kept}
 use Rattle.machine.specs.declared.records.Fault.{Fault}
 use Rattle.machine.specs.Network.{station, order, has-free, marked, freed, closed}
-use Rattle.machine.specs.Machine.{Machine, with-network, tell, mark, strand, seq-by, branch, halted, halted-by, is-some, as-is}
-use Rattle.machine.specs.Step.{next-event, meld-lines, start-front, free-bench, release, leave, finish, cancel-event, cancel-line, withdraw-by, withdraw, fill-by, fill-one, fill, stays-open, close-into, close-by, close, react}
+use Rattle.machine.specs.Machine.{Machine, with-network, tell, mark, strand, branch, halted, halted-by, is-some, as-is}
+use Rattle.machine.specs.Step.{next-event, meld-lines, free-bench, release, leave, finish, cancel-event, cancel-line, withdraw-by, withdraw, fill-by, fill-one, fill, stays-open, close-into, close-by, close, react}
 use Rattle.machine_laws.specs.Arrivals.{is-arrival}
 use Rattle.machine_laws.specs.Entries.{total}
 use Rattle.machine_laws.specs.History.{place, waits-in}
@@ -38,7 +36,7 @@ use Rattle.machine_laws.proofs.Unchanged.{front-leaves, same-by, events-kept, 
 use Rattle.machine_laws.proofs.Spending.{strand-base, strand-orders}
 use Rattle.machine_laws.proofs.Holding.{carry, base-kept, taken, arrived-base, arrived-orders, finished-base, finished-orders, other-base, other-orders}
 use Rattle.machine_laws.proofs.Withdrawing.{withdrawn-base, withdrawn-orders, waiting-base, waiting-orders, fits-waiting, serving-base, serving-orders}
-use Rattle.machine_laws.proofs.Melding.{melded, melded-is, melded-base, melded-orders}
+use Rattle.machine_laws.proofs.Melding.{melded-is, melded-base, melded-orders}
 use Rattle.machine_laws.proofs.OrderedSteps.{Inv, still, enter-inv, front-inv, leave-inv}
 
 -- where nothing was refused, what halts is a fault

@@ -3,46 +3,36 @@ use mathlib.Core.Path.{_≡_, refl, sym, ap, subst, _∙_}
 use mathlib.Core.Bool.{Bool, true, false}
 use mathlib.Core.List.{List, [], _∷_, _++_}
 use mathlib.Core.Logic.{_⊎_, inl, inr}
-use Prim.Native.Nat.{ℕ, zero, suc, _+_, _≤_, _<_}
+use Prim.Native.Nat.{ℕ, _<_}
 use native.Mathlib.Omega.{arith}
-use lib.Dec.{leb, eqb}
 use lib.ListN.{length}
 use Rattle.std.specs.shelf.Lists.{All}
 use Rattle.std.specs.declared.option.Option.{Option}
 use Rattle.std.specs.declared.option.Option.the-variants.{Some, None}
-use Rattle.std.specs.declared.result.Result.the-variants.{Ok, Err}
-use Rattle.std.proofs.shelf.Tests.{cases-bool, leb-false, or-parts, eqb-false}
-use Rattle.elements.specs.declared.events.Event.{Event}
+use Rattle.std.proofs.shelf.Tests.{leb-false}
 use Rattle.elements.specs.declared.lines.LineEntry.{LineEntry}
 use Rattle.elements.specs.declared.entries.Entry.{Entry}
 use Rattle.elements.specs.Elements.{event-le, line-le}
 use Rattle.stores.specs.declared.refusals.Refusal.{Refusal}
-use Rattle.machine.specs.declared.networks.OrderState.{OrderState}
-use Rattle.machine.specs.declared.networks.OrderState.the-variants.{NotYet, Waiting, InService, Done as is-done, Away as is-away, Withdrawn as is-withdrawn, Stranded}
-use Rattle.machine.specs.declared.forms.ScriptRefusal.{ScriptRefusal}
-use Rattle.machine.specs.declared.records.RecordKind.{RecordKind}
-use Rattle.machine.specs.declared.records.RecordKind.the-variants.{Away, Withdrawn, Missed, Done, Kept}
+use Rattle.machine.specs.declared.networks.OrderState.the-variants.{Done as is-done, Away as is-away}
+use Rattle.machine.specs.declared.records.RecordKind.the-variants.{Away, Done}
 use Rattle.machine.specs.declared.records.StoreName.{StoreName}
 use Rattle.machine.specs.declared.records.StoreName.the-variants.{Events, Orders as order-store}
-use Rattle.machine.specs.declared.records.Fault.{Fault}
 use Rattle.machine.specs.Network.{station, order, has-free, open-station, marked, freed}
-use Rattle.machine.specs.Machine.{Machine, with-cut, tell, fail, mark, strand, seq-by, branch, halted, halted-by, is-some, as-is}
+use Rattle.machine.specs.Machine.{Machine, with-cut, fail, mark, strand}
 use Rattle.machine.specs.Puts.{event-tried, line-tried}
-use Rattle.machine.specs.Step.{started, start, at-limit, turned-away, waited, wait, its-entry, finish-event, enter-by, enter, line, take-line, start-by, start-front, free-bench, leave-by, leave, cancel-event, cancel-line, withdraw-by, withdraw, fill-by, fill-one, fill, stays-open, close-into, close-by, close}
+use Rattle.machine.specs.Step.{started, start, at-limit, turned-away, waited, wait, its-entry, finish-event, enter-by, enter, line, start-by, start-front, leave-by, leave}
 use Rattle.machine_laws.specs.Entries.{total}
 use Rattle.machine_laws.specs.History.{place}
 use Rattle.machine_laws.proofs.Trying.{Refused, Accepted, tried}
-use Rattle.machine_laws.proofs.Walks.{Closed, start-walks, wait-walks, front-walks, leave-walks, withdraw-walks, fill-walks, fill-one-walks, close-walks}
+use Rattle.machine_laws.proofs.Walks.{Closed, start-walks, wait-walks}
 use Rattle.machine_laws.proofs.Timing.{Sound, keeps}
-use Rattle.machine_laws.proofs.Histories.{waits, waits-push, unfinished, Fair, Allowed, Good, good-push}
-use Rattle.machine_laws.proofs.Orders.{any-arrival, Hand, Out, Ranged, Base, Orders, Same, Stays}
-use Rattle.machine_laws.proofs.Hands.{Marks}
-use Rattle.machine_laws.proofs.Unchanged.{same-by, events-kept, lines-kept, told-kept, Silent, told-silent, away-silent, done-silent, missed-silent, kept-silent}
+use Rattle.machine_laws.proofs.Histories.{waits, waits-push, unfinished, Fair, Good}
+use Rattle.machine_laws.proofs.Orders.{any-arrival, Hand, Ranged, Base, Orders, Same, Stays}
+use Rattle.machine_laws.proofs.Unchanged.{away-silent, done-silent}
 use Rattle.machine_laws.proofs.Spending.{Written, start-base, start-orders, wait-base, wait-orders, gone-base, gone-spot, gone-settled, gone-orders, strand-base, strand-orders}
 use Rattle.machine_laws.proofs.Holding.{carry, base-kept}
 use Rattle.machine_laws.proofs.Fronts.{fronted, fronted-is, Placeless, front-base, front-orders, front-fair}
-use Rattle.machine_laws.proofs.Withdrawing.{withdrawn-base, withdrawn-orders, waiting-base, waiting-orders, serving-base, serving-orders}
-use Rattle.machine_laws.proofs.Melding.{melded, melded-is, melded-base, melded-orders}
 
 -- at any moment of a step: these orders are in hand, n arrivals are left
 pub record Inv (who : ℕ → LineEntry) (h : List Hand) (n : ℕ) (m : Machine) : Type 0 where

@@ -1,17 +1,13 @@
 -- What holds of every order, in hand or not, at any moment of a step.
-use mathlib.Core.Path.{_≡_, refl, sym, ap, subst, _∙_}
-use mathlib.Core.Bool.{Bool, true, false, cond}
+use mathlib.Core.Path.{_≡_, sym, subst, _∙_}
+use mathlib.Core.Bool.{Bool, false, cond}
 use mathlib.Core.List.{List, [], _∷_}
-use mathlib.Core.Logic.{_⊎_, inl, inr}
 use Prim.Native.Nat.{ℕ, _+_, _≤_, _<_}
 use native.Mathlib.Omega.{arith}
 use lib.Dec.{ltb, eqb}
-use lib.ListN.{length, getD, set, take}
+use lib.ListN.{length}
 use Rattle.std.specs.shelf.Lists.{All, sumBy}
-use Rattle.std.specs.declared.option.Option.{Option}
 use Rattle.std.specs.declared.option.Option.the-variants.{Some, None}
-use Rattle.std.proofs.shelf.Lists.{length-set, getD-set-same, getD-set-other, getD-take}
-use Rattle.std.proofs.shelf.Tests.{cases-eq}
 use Rattle.elements.specs.declared.events.Event.{Event}
 use Rattle.elements.specs.declared.events.EventKind.{EventKind}
 use Rattle.elements.specs.declared.events.EventKind.the-variants.{Arrive, Finish, Withdraw, Close}
@@ -21,8 +17,7 @@ use Rattle.machine.specs.declared.networks.Order.{Order}
 use Rattle.machine.specs.declared.networks.Network.{Network}
 use Rattle.machine.specs.declared.networks.OrderState.{OrderState}
 use Rattle.machine.specs.declared.networks.OrderState.the-variants.{NotYet, Waiting, InService, Done, Away, Withdrawn, Stranded}
-use Rattle.machine.specs.declared.records.Fault.{Fault}
-use Rattle.machine.specs.Network.{no-order, order, with-state, line-entry}
+use Rattle.machine.specs.Network.{order, line-entry}
 use Rattle.machine.specs.Machine.{Machine}
 use Rattle.machine.specs.Closing.{one-in, declared-orders}
 use Rattle.machine_laws.specs.Arrivals.{is-arrival}

@@ -1,16 +1,15 @@
 -- The ways in which an order in hand is spent.
 use mathlib.Core.Path.{_≡_, refl, sym, ap, subst, _∙_}
-use mathlib.Core.Bool.{Bool, true, false, cond, _&&_}
+use mathlib.Core.Bool.{true, false, cond, _&&_}
 use mathlib.Core.List.{List, [], _∷_, _++_}
 use Prim.Native.Nat.{ℕ, _+_, _≤_, _<_}
-use native.Mathlib.Nat.{le-refl}
 use native.Mathlib.Omega.{arith}
 use lib.Dec.{eqb}
-use lib.ListN.{length, getD, set}
+use lib.ListN.{length, getD}
 use Rattle.std.specs.shelf.Lists.{All}
 use Rattle.std.specs.declared.option.Option.{Option}
 use Rattle.std.specs.declared.option.Option.the-variants.{Some, None}
-use Rattle.std.specs.declared.result.Result.the-variants.{Ok, Err}
+use Rattle.std.specs.declared.result.Result.the-variants.{Ok}
 use Rattle.std.proofs.shelf.Elements.{all-set}
 use Rattle.std.proofs.shelf.Lists.{length-set}
 use Rattle.std.proofs.shelf.Tests.{eq-eqb}
@@ -19,19 +18,17 @@ use Rattle.elements.specs.declared.lines.LineEntry.{LineEntry}
 use Rattle.elements.specs.declared.entries.Entry.{Entry}
 use Rattle.elements.specs.Elements.{event-le, line-le}
 use Rattle.elements.specs.Order.{precedes-by}
-use Rattle.stores.specs.declared.refusals.Refusal.{Refusal}
-use Rattle.stores.specs.Meaning.{State, list-of}
+use Rattle.stores.specs.Meaning.{list-of}
 use Rattle.stores.specs.Calls.{put-after}
 use Rattle.machine.specs.declared.networks.Order.{Order}
 use Rattle.machine.specs.declared.networks.Network.{Network}
 use Rattle.machine.specs.declared.networks.OrderState.{OrderState}
-use Rattle.machine.specs.declared.networks.OrderState.the-variants.{Waiting, InService, Done as is-done, Away as is-away, Withdrawn as is-withdrawn, Stranded}
+use Rattle.machine.specs.declared.networks.OrderState.the-variants.{Waiting, InService, Stranded}
 use Rattle.machine.specs.declared.records.RecordKind.{RecordKind}
-use Rattle.machine.specs.declared.records.RecordKind.the-variants.{Start, Wait, Away, Done}
+use Rattle.machine.specs.declared.records.RecordKind.the-variants.{Start}
 use Rattle.machine.specs.declared.records.Record.{Record}
-use Rattle.machine.specs.declared.records.StoreName.{StoreName}
-use Rattle.machine.specs.Network.{no-order, order, with-state, marked, occupied, line-entry}
-use Rattle.machine.specs.Machine.{Machine, listed, with-cut, with-events, with-lines, tell, fail, mark, strand}
+use Rattle.machine.specs.Network.{no-order, order, with-state, line-entry}
+use Rattle.machine.specs.Machine.{Machine, listed, with-cut, with-events, with-lines, tell, mark, strand}
 use Rattle.machine.specs.Step.{finish-event, started, waited, its-entry}
 use Rattle.machine_laws.specs.Entries.{total}
 use Rattle.machine_laws.specs.History.{place}
@@ -39,9 +36,9 @@ use Rattle.machine_laws.specs.Whereabouts.{one, arrival-of, finish-of, finish-
 use Rattle.machine_laws.proofs.Elements.{set-alike, all-get, all-insert}
 use Rattle.machine_laws.proofs.Totalling.{total-put}
 use Rattle.machine_laws.proofs.Histories.{waits, waits-push, place-push, unfinished, unfinished-push, Fair, Allowed, Good, good-push}
-use Rattle.machine_laws.proofs.Orders.{wait-at, any-arrival, pending-in, Hand, In-hand, Out, Fits, Ranged, Base, Orders, Same, Stays, fits-same, hand-same}
+use Rattle.machine_laws.proofs.Orders.{wait-at, any-arrival, pending-in, Hand, Fits, Ranged, Base, Orders}
 use Rattle.machine_laws.proofs.Hands.{Marks, state-there, spend}
-use Rattle.machine_laws.proofs.Unchanged.{same-by, events-kept, lines-kept, told-kept, foreign-finish, event-put, line-put, Silent, told-silent, start-silent, wait-silent, away-silent, done-silent}
+use Rattle.machine_laws.proofs.Unchanged.{same-by, events-kept, lines-kept, told-kept, foreign-finish, event-put, line-put, Silent, told-silent, start-silent, wait-silent}
 
 abbrev pub Written : (ℕ → LineEntry) → Entry LineEntry → Type 0
 Written who e = e .element ≡ who (e .element .order)

@@ -1,12 +1,10 @@
 -- Both stores stay in order, records are told in time, and events that were taken do not come back.
 use mathlib.Core.Path.{_≡_, refl, sym, subst}
-use mathlib.Core.Bool.{Bool, true, false, cond}
 use mathlib.Core.List.{List, [], _∷_, _++_}
 use mathlib.Core.Logic.{_⊎_, inl, inr}
 use Prim.Native.Nat.{ℕ, _+_, _≤_, _<_}
 use native.Mathlib.Nat.{le-refl}
 use native.Mathlib.Omega.{arith}
-use lib.Dec.{eqb}
 use lib.ListN.{length}
 use Rattle.std.specs.shelf.Lists.{All}
 use Rattle.std.specs.declared.option.Option.{Option}
@@ -21,7 +19,7 @@ use Rattle.elements.specs.declared.entries.Entry.{Entry}
 use Rattle.elements.specs.Elements.{event-le, line-le}
 use Rattle.elements.specs.Order.{Laws, Strict, precedes-by, stamp-of}
 use Rattle.elements.proofs.Strictness.{strict}
-use Rattle.stores.specs.SortedLists.{merge, merge-at, insert, without}
+use Rattle.stores.specs.SortedLists.{without}
 use Rattle.stores.specs.Meaning.{State, list-of, live}
 use Rattle.stores.specs.Calls.{cancel-after, found, queue-with}
 use Rattle.stores.proofs.Counting.{adds-up}

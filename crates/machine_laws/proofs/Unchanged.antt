@@ -1,8 +1,8 @@
 -- What one change of a store, or one record more, leaves of the other orders.
-use mathlib.Core.Path.{_≡_, refl, sym, ap, subst, _∙_}
+use mathlib.Core.Path.{_≡_, refl, sym, ap, _∙_}
 use mathlib.Core.Bool.{Bool, true, false, cond, _&&_}
 use mathlib.Core.List.{List, [], _∷_, _++_}
-use Prim.Native.Nat.{ℕ, _+_, _≤_, _<_}
+use Prim.Native.Nat.{ℕ, _+_, _<_}
 use native.Mathlib.Omega.{arith}
 use lib.Dec.{eqb}
 use lib.ListN.{length}
@@ -24,7 +24,7 @@ use Rattle.machine.specs.declared.records.Record.{Record}
 use Rattle.machine.specs.Machine.{Machine}
 use Rattle.machine_laws.specs.Entries.{total}
 use Rattle.machine_laws.specs.History.{Place, place-after, place}
-use Rattle.machine_laws.specs.Whereabouts.{one, arrives, arrival-of, ends, finish-of, ends-at, finish-with, wait-of, wait-with}
+use Rattle.machine_laws.specs.Whereabouts.{one, arrives, arrival-of, ends, finish-of, ends-at, finish-with, wait-of}
 use Rattle.machine_laws.proofs.Totalling.{total-put, total-take, Leaves}
 use Rattle.machine_laws.proofs.Histories.{waits, place-push, unfinished-after, unfinished, unfinished-push}
 use Rattle.machine_laws.proofs.Orders.{wait-at, Same}

@@ -1,11 +1,10 @@
 -- An order is withdrawn: its entry leaves the line, or its finish the events.
 use mathlib.Core.Path.{_≡_, refl, sym, ap, subst, _∙_}
 use mathlib.Core.Bool.{Bool, true, false, cond, _&&_}
-use mathlib.Core.List.{List, [], _∷_, _++_}
-use Prim.Native.Nat.{ℕ, _+_, _≤_, _<_}
+use mathlib.Core.List.{List, [], _∷_}
+use Prim.Native.Nat.{ℕ, _≤_, _<_}
 use native.Mathlib.Omega.{arith}
 use lib.Dec.{ltb, eqb}
-use lib.ListN.{set}
 use Rattle.std.specs.shelf.Lists.{All}
 use Rattle.std.specs.declared.option.Option.{Option}
 use Rattle.std.specs.declared.option.Option.the-variants.{Some, None}
@@ -22,7 +21,6 @@ use Rattle.elements.specs.Order.{stamp-of}
 use Rattle.stores.specs.Meaning.{State, list-of}
 use Rattle.stores.specs.Calls.{cancel-after, found, queue-with}
 use Rattle.machine.specs.declared.networks.Network.{Network}
-use Rattle.machine.specs.declared.networks.OrderState.{OrderState}
 use Rattle.machine.specs.declared.networks.OrderState.the-variants.{Waiting, InService, Withdrawn as is-withdrawn}
 use Rattle.machine.specs.declared.records.RecordKind.the-variants.{Withdrawn}
 use Rattle.machine.specs.Network.{order}
@@ -36,7 +34,7 @@ use Rattle.machine_laws.proofs.Elements.{all-get, all-without}
 use Rattle.machine_laws.proofs.Totalling.{stamp-is, total-le, Leaves, cancel-leaves}
 use Rattle.machine_laws.proofs.TidyStores.{Tidy}
 use Rattle.machine_laws.proofs.Histories.{waits, waits-push, place-push, unfinished, good-push}
-use Rattle.machine_laws.proofs.Orders.{wait-at, any-arrival, pending-in, Hand, In-hand, Fits, Ranged, Base, Orders, Same}
+use Rattle.machine_laws.proofs.Orders.{wait-at, any-arrival, pending-in, Hand, Fits, Ranged, Base, Orders}
 use Rattle.machine_laws.proofs.Hands.{Marks, spend, hold}
 use Rattle.machine_laws.proofs.Unchanged.{same-by, events-kept, lines-kept, told-kept, foreign-finish, Foreign, event-left, line-left, told-silent, withdrawn-silent}
 use Rattle.machine_laws.proofs.Spending.{Written, base-marked, roomy}

@@ -8,7 +8,6 @@ use Rattle.std.specs.declared.option.Option.the-variants.{Some, None}
 use Rattle.elements.specs.declared.events.Event.{Event}
 use Rattle.elements.specs.declared.events.EventKind.{EventKind}
 use Rattle.elements.specs.declared.events.EventKind.the-variants.{Arrive, Finish, Withdraw, Close}
-use Rattle.machine.specs.declared.forms.Form.{Form}
 use Rattle.machine.specs.declared.records.Totals.{Totals}
 use Rattle.machine.specs.Machine.{Bounds, Machine, start-machine}
 use Rattle.machine.specs.Step.{due-event}

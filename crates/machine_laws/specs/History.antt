@@ -14,7 +14,6 @@ use Rattle.machine.specs.declared.networks.Network.{Network}
 use Rattle.machine.specs.declared.records.RecordKind.{RecordKind}
 use Rattle.machine.specs.declared.records.RecordKind.the-variants.{Start, Wait, Away, Withdrawn, Missed, Finish, Done, Close, Kept}
 use Rattle.machine.specs.declared.records.Record.{Record}
-use Rattle.machine.specs.Machine.{Machine}
 use Rattle.machine.specs.Network.{line-entry}
 use Rattle.machine_laws.specs.Runs.{Always}
 

@@ -1,8 +1,11 @@
 // Theorems about every run of the machine. The functions compute nothing: each stands for the theorem in its contract.
+ghost use Rattle.machine_laws.specs.History.{Front-first, Finished-between};
 ghost use Rattle.machine_laws.specs.Records.{Few-records};
+ghost use Rattle.machine_laws.specs.Arrivals.{Arrived-accounted};
 ghost use Rattle.machine_laws.specs.Closings.{Open-reached};
 ghost use Rattle.machine_laws.specs.Stops.{Stopped-alike};
 ghost use Rattle.machine_laws.specs.Times.{Times-rise, Runs-end};
+ghost use Rattle.machine_laws.specs.Whereabouts.{Orders-located};
 
 // A step makes at most 9 records, after those that there are.
 pub fn steps_make_few_records()
@@ -27,4 +30,24 @@ pub fn times_never_fall()
 // Every run comes to its end within as many steps as the event store gives out stamps.
 pub fn runs_end()
     ensures { λ _. ⌜ Runs-end ⌝ }
+{}
+
+// After every call: arrived = done + away + withdrawn + inside + stranded.
+pub fn arrived_adds_up()
+    ensures { λ _. ⌜ Arrived-accounted ⌝ }
+{}
+
+// Every declared order is where its state says, so that after a fault or a stop just the orders then in hand are stranded.
+pub fn orders_are_located()
+    ensures { λ _. ⌜ Orders-located ⌝ }
+{}
+
+// Whoever is started from a line is preceded by nobody who waits in it.
+pub fn front_goes_first()
+    ensures { λ _. ⌜ Front-first ⌝ }
+{}
+
+// Between two starts of an order it finished.
+pub fn starts_are_finished()
+    ensures { λ _. ⌜ Finished-between ⌝ }
 {}

@@ -1,0 +1,11 @@
+pub mod Network
+pub mod Machine
+pub mod Puts
+pub mod Step
+pub mod Forms
+pub mod Calls
+pub mod Closing
+pub mod Text
+pub mod Reading
+pub mod Script
+pub mod Examples

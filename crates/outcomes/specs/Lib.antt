@@ -1,0 +1,3 @@
+pub mod Simulation
+pub mod Outcomes
+pub mod Composition

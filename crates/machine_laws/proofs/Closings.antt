@@ -129,9 +129,9 @@ call-grown a-step m h = step-grown m h
 
 first-grown : (e l : Bounds) (c : Option ℕ) → Grown (start-machine e l c)
 first-grown e l c = record {
-    forest = record { stations = refl; opens = λ k. none k };
-    draft = λ q k. none k;
-  }
+  forest = record { stations = refl; opens = λ k. none k };
+  draft = λ q k. none k;
+}
   where
     none : (k : ℕ) → station cleared k .into ≡ None
     none k = replicate-has (λ (x : Station). x .into ≡ None) 32 k no-station refl

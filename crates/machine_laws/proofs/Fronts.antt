@@ -143,11 +143,11 @@ module _ (who : ℕ → LineEntry) (n k : ℕ) (h : List Hand) (m : Machine) (b 
       hold _ h n n m (fronted e k m) front-out o refl (omega (arith, ap pending-in (front-queued .is))) (λ x y. x y)
       (λ j ne. same-by m (fronted e k m) j (events-kept (m .events .state) j) (line-left (m .lines .state) (fronted e k m .lines .state) (e .stamp) j (front-leaves (m .lines .state) k e p) ne) (told-kept (m .records) j))
       (record {
-          declared = is-declared who n m i b (ap pending-in (front-queued .is));
-          spot = record { arrivals = f .0 .arrivals; finishes = f .0 .finishes; waits = omega (arith, takes (wait-of i), self, f .0 .waits) };
-          place = front-place;
-          unfinished = f .1 .1;
-        })
+        declared = is-declared who n m i b (ap pending-in (front-queued .is));
+        spot = record { arrivals = f .0 .arrivals; finishes = f .0 .finishes; waits = omega (arith, takes (wait-of i), self, f .0 .waits) };
+        place = front-place;
+        unfinished = f .1 .1;
+      })
 
   pub front-fair : m .fault ≡ None → Placeless h → Fair who (λ j. place j (m .records)) i k
   front-fair running placeless s j t pi pj =

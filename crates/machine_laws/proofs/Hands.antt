@@ -72,8 +72,8 @@ spend i st x h n m v xi o few k z f same here =
 -- order x is taken in hand: stores and records have nothing of it any more
 pub hold : (x : Hand) (h : List Hand) (n p : ℕ) (m v : Machine) → Out h (x .order) → Orders h n m → v .network ≡ m .network → n ≡ p + pending-in (order (m .network) (x .order) .state) → Stays m v → ((j : ℕ) → (j ≡ x .order → ⊥) → Same m v j) → In-hand v x → Orders (x ∷ h) p v
 hold x h n p m v out o e a f same here = record {
-    pending = ap pending e ∙ (omega (arith, o .pending, a) ∙ ap (λ w. p + stale w (x ∷ h)) (sym e));
-    hand = (here, hands-same m v (x .order) h (ap (λ w. w .declared .orders) e) same out (o .hand));
-    apart = (out, o .apart);
-    fits = λ j q. subst (λ w. Fits v j (order w j .state)) (sym e) (fits-same m v j (order (m .network) j .state) (ap (λ w. w .declared .orders) e) f (same j (λ r. q .0 (sym r))) (o .fits j (q .1)));
-  }
+  pending = ap pending e ∙ (omega (arith, o .pending, a) ∙ ap (λ w. p + stale w (x ∷ h)) (sym e));
+  hand = (here, hands-same m v (x .order) h (ap (λ w. w .declared .orders) e) same out (o .hand));
+  apart = (out, o .apart);
+  fits = λ j q. subst (λ w. Fits v j (order w j .state)) (sym e) (fits-same m v j (order (m .network) j .state) (ap (λ w. w .declared .orders) e) f (same j (λ r. q .0 (sym r))) (o .fits j (q .1)));
+}

@@ -49,24 +49,24 @@ module _ (h : List Hand) (n : ℕ) (m v : Machine) (os : v .network .orders ≡ 
 
   pub carry : Stays m v → ((j : ℕ) → Same m v j) → Orders h n m → Orders h n v
   carry f s o = record {
-      pending = (λ j. sumBy (λ (x : Order). pending-in (x .state)) (take (d j) (os j))) ∙ o .pending ∙ ap (λ y. n + y) (sym (stale-kept h));
-      hand = hands-kept h s (o .hand);
-      apart = o .apart;
-      fits = λ j q. subst (λ xs. Fits v j (getD xs j no-order .state)) (sym os) (fits-same m v j (order (m .network) j .state) d f (s j) (o .fits j q));
-    }
+    pending = (λ j. sumBy (λ (x : Order). pending-in (x .state)) (take (d j) (os j))) ∙ o .pending ∙ ap (λ y. n + y) (sym (stale-kept h));
+    hand = hands-kept h s (o .hand);
+    apart = o .apart;
+    fits = λ j q. subst (λ xs. Fits v j (getD xs j no-order .state)) (sym os) (fits-same m v j (order (m .network) j .state) d f (s j) (o .fits j q));
+  }
 
   pub base-kept : (who : ℕ → LineEntry) (p : ℕ) → Base who n m → All (All (Written who)) (v .lines .state .lists) → waits (v .records) ≡ v .lines .state .next → Good who (v .records) → total any-arrival (v .events .state) ≡ p → All (All Ranged) (v .events .state .lists) → Base who p v
   base-kept who p b w s g l z = record {
-      size = ap length os ∙ b .size;
-      few = subst (λ x. x ≤ 1024) (sym d) (b .few);
-      known = λ j. ap (λ xs. record { order = j; urgency = getD xs j no-order .urgency; due = getD xs j no-order .due }) os ∙ b .known j;
-      written = w;
-      stamped = s;
-      good = g;
-      left = l;
-      undeclared = λ j q. ap (λ xs. getD xs j no-order .state) os ∙ b .undeclared j (subst (λ x. x ≤ j) d q);
-      ranged = z;
-    }
+    size = ap length os ∙ b .size;
+    few = subst (λ x. x ≤ 1024) (sym d) (b .few);
+    known = λ j. ap (λ xs. record { order = j; urgency = getD xs j no-order .urgency; due = getD xs j no-order .due }) os ∙ b .known j;
+    written = w;
+    stamped = s;
+    good = g;
+    left = l;
+    undeclared = λ j q. ap (λ xs. getD xs j no-order .state) os ∙ b .undeclared j (subst (λ x. x ≤ j) d q);
+    ranged = z;
+  }
 
 same-number : (i : ℕ) → eqb i i ≡ true
 same-number i = eq-eqb i i refl
@@ -168,11 +168,11 @@ module _ (who : ℕ → LineEntry) (n : ℕ) (m : Machine) (b : Base who n m) (o
         hold _ [] n _ m (taken e m) tt o refl (sym (omega (arith, takes any-arrival, ap is-arrival is, b .left, ap pending-in (was .0)))) (λ x y. x y)
         (λ j ne. taken-same j (subst (Foreign j) (sym is) (foreign-arrival i k j ne)))
         (record {
-            declared = grind (arith, tells, f .0 .arrivals, arrival);
-            spot = record { arrivals = omega (arith, takes (arrival-of i), ap (arrives i) is, ap one (same-number i), f .0 .arrivals, few); finishes = omega (arith, takes (finish-of i), ap (ends i) is, f .0 .finishes); waits = f .0 .waits };
-            place = f .1 .1;
-            unfinished = f .1 .0;
-          })
+          declared = grind (arith, tells, f .0 .arrivals, arrival);
+          spot = record { arrivals = omega (arith, takes (arrival-of i), ap (arrives i) is, ap one (same-number i), f .0 .arrivals, few); finishes = omega (arith, takes (finish-of i), ap (ends i) is, f .0 .finishes); waits = f .0 .waits };
+          place = f .1 .1;
+          unfinished = f .1 .0;
+        })
 
   -- order i finishes: the record tells it
   module _ (i k : ℕ) (is : e .element .kind ≡ Finishing i k) where
@@ -191,11 +191,11 @@ module _ (who : ℕ → LineEntry) (n : ℕ) (m : Machine) (b : Base who n m) (o
         hold _ [] n n m (taken e m) tt o refl (omega (arith, ap pending-in (served .is))) (λ x y. x y)
         (λ j ne. taken-same j (subst (Foreign j) (sym is) (foreign-finish i k j ne)))
         (record {
-            declared = is-declared who n m i b (ap pending-in (served .is));
-            spot = record { arrivals = omega (arith, takes (arrival-of i), ap (arrives i) is, f .0 .arrivals); finishes = omega (arith, takes (finish-of i), ap (ends i) is, ap one (same-number i), f .0 .finishes); waits = f .0 .waits };
-            place = f .1 .0;
-            unfinished = refl;
-          })
+          declared = is-declared who n m i b (ap pending-in (served .is));
+          spot = record { arrivals = omega (arith, takes (arrival-of i), ap (arrives i) is, f .0 .arrivals); finishes = omega (arith, takes (finish-of i), ap (ends i) is, ap one (same-number i), f .0 .finishes); waits = f .0 .waits };
+          place = f .1 .0;
+          unfinished = refl;
+        })
 
     abbrev told-finish : Machine
     told-finish = tell (Finish i k) (taken e m)
@@ -209,12 +209,15 @@ module _ (who : ℕ → LineEntry) (n : ℕ) (m : Machine) (b : Base who n m) (o
         let told : (j : ℕ) → (j ≡ i → ⊥) → Same (taken e m) told-finish j = λ j ne. same-by (taken e m) told-finish j (events-kept _ j) (lines-kept _ j) (told-silent (m .records) _ j (finish-silent i k j ne)) in
         record {
           pending = g .pending;
-          hand = (record {
-                    declared = g .hand .0 .declared;
-                    spot = record { arrivals = g .hand .0 .spot .arrivals; finishes = g .hand .0 .spot .finishes; waits = g .hand .0 .spot .waits };
-                    place = place-push i (m .records) _ ∙ g .hand .0 .place;
-                    unfinished = unfinished-push i (m .records) _ ∙ ap (λ t. cond t false (unfinished i (m .records))) (same-number i);
-                  }, tt);
+          hand = (
+            record {
+              declared = g .hand .0 .declared;
+              spot = record { arrivals = g .hand .0 .spot .arrivals; finishes = g .hand .0 .spot .finishes; waits = g .hand .0 .spot .waits };
+              place = place-push i (m .records) _ ∙ g .hand .0 .place;
+              unfinished = unfinished-push i (m .records) _ ∙ ap (λ t. cond t false (unfinished i (m .records))) (same-number i);
+            },
+            tt,
+          );
           apart = (tt, tt);
           fits = λ j q. fits-same (taken e m) told-finish j (order (m .network) j .state) refl (λ x y. x y) (told j (λ y. q .0 (sym y))) (g .fits j q);
         }

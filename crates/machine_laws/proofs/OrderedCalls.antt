@@ -62,22 +62,22 @@ Declares m v = v .network .declared ≡ m .network .declared
 
 declares : Closed Declares
 declares = record {
-    same = λ m. refl;
-    then = λ m v w a b. b ∙ a;
-    told = λ x m. refl;
-    marked = λ i st m. refl;
-    occupied = λ k m. refl;
-    freed = λ k m. refl;
-    closing = λ k j m e. refl;
-    event-put = λ x m e f. refl;
-    event-cancelled = λ k m. refl;
-    line-put = λ q x m e. refl;
-    line-taken = λ k m. refl;
-    line-cancelled = λ k m. refl;
-    line-melded = λ j k m. refl;
-    cut = λ c m. refl;
-    failed = λ f s m. refl;
-  }
+  same = λ m. refl;
+  then = λ m v w a b. b ∙ a;
+  told = λ x m. refl;
+  marked = λ i st m. refl;
+  occupied = λ k m. refl;
+  freed = λ k m. refl;
+  closing = λ k j m e. refl;
+  event-put = λ x m e f. refl;
+  event-cancelled = λ k m. refl;
+  line-put = λ q x m e. refl;
+  line-taken = λ k m. refl;
+  line-cancelled = λ k m. refl;
+  line-melded = λ j k m. refl;
+  cut = λ c m. refl;
+  failed = λ f s m. refl;
+}
 
 -- an event is due only while there is no fault
 due-running : (f : Option Fault) (t : Option ℕ) (o : Option (Entry Event)) (x : Event) → due-by f t o ≡ Some x → f ≡ None
@@ -89,6 +89,7 @@ step-leads n m h = go (due-event m) refl
   where
     timed : Timed (step m)
     timed = call-timed a-step m (h .timed)
+
     go : (o : Option Event) → due-event m ≡ o → Leads a-step n m
     go None p =
         let s = still (h .who) [] n m (with-refusal m None) refl refl refl refl refl (λ f q. f q) (h .base) (h .orders) in
@@ -96,13 +97,13 @@ step-leads n m h = go (due-event m) refl
         record {
           left = n;
           reached = record {
-              who = h .who;
-              base = subst (Base (h .who) n) (sym is) (s .0);
-              orders = subst (Orders [] n) (sym is) (s .1);
-              timed = timed;
-              quiet = λ e. ap (λ v. v .records) is ∙ h .quiet (sym (ap (λ v. v .end) is) ∙ e);
-              empty = λ e. ap (λ v. v .lines .state) is ∙ h .empty (sym (ap (λ v. v .end) is) ∙ e);
-            };
+            who = h .who;
+            base = subst (Base (h .who) n) (sym is) (s .0);
+            orders = subst (Orders [] n) (sym is) (s .1);
+            timed = timed;
+            quiet = λ e. ap (λ v. v .records) is ∙ h .quiet (sym (ap (λ v. v .end) is) ∙ e);
+            empty = λ e. ap (λ v. v .lines .state) is ∙ h .empty (sym (ap (λ v. v .end) is) ∙ e);
+          };
           count = omega (arith, ap arriving-by p, ap (λ v. v .network .declared .orders) is);
         }
     go (Some x) p =
@@ -118,13 +119,13 @@ step-leads n m h = go (due-event m) refl
         record {
           left = r .0;
           reached = record {
-              who = h .who;
-              base = subst (Base (h .who) (r .0)) (sym is) (r .2 .base);
-              orders = subst (Orders [] (r .0)) (sym is) (r .2 .orders);
-              timed = timed;
-              quiet = λ q. absurd (due-ended (m .fault) (m .end) (next-event m) x p (sym ended ∙ q));
-              empty = λ q. absurd (due-ended (m .fault) (m .end) (next-event m) x p (sym ended ∙ q));
-            };
+            who = h .who;
+            base = subst (Base (h .who) (r .0)) (sym is) (r .2 .base);
+            orders = subst (Orders [] (r .0)) (sym is) (r .2 .orders);
+            timed = timed;
+            quiet = λ q. absurd (due-ended (m .fault) (m .end) (next-event m) x p (sym ended ∙ q));
+            empty = λ q. absurd (due-ended (m .fault) (m .end) (next-event m) x p (sym ended ∙ q));
+          };
           count = omega (arith, r .1, ap arriving-by p, ap (λ (y : Event). is-arrival (y .kind)) (d .2), ap (λ v. v .network .declared .orders) is, ap (λ (y : Declared). y .orders) (react-walks Declares declares (e .element .kind) (taken e u)));
         }
 
@@ -153,14 +154,14 @@ formed-put n m x h z fine f = go (tried event-le (m .cut) (m .events) 0 x)
     go (inr p) =
         let inside : 0 < length (m .events .state .lists) = omega (arith, h .timed .sound .events-tidy .queues) in
         subst (λ t. Formed n m (event-tried announced m t)) (sym (p .is)) (record {
-            who = h .who;
-            left = n;
-            base = put-base (h .who) n m x (p .cut) inside (h .base) (h .orders) fine z f;
-            orders = put-orders (h .who) n m x (p .cut) inside (h .base) (h .orders) fine z f;
-            quiet = h .quiet;
-            empty = h .empty;
-            count = refl;
-          })
+          who = h .who;
+          left = n;
+          base = put-base (h .who) n m x (p .cut) inside (h .base) (h .orders) fine z f;
+          orders = put-orders (h .who) n m x (p .cut) inside (h .base) (h .orders) fine z f;
+          quiet = h .quiet;
+          empty = h .empty;
+          count = refl;
+        })
 
 passed : (r p d : Bool) → checked r p d ≡ None → (r ≡ true) × (p ≡ true)
 passed false p d e = absurd (let z : _≡_ {A = ℕ} 0 1 = cc in omega arith)
@@ -179,14 +180,14 @@ accept-formed (an-order i t u d k) n m h e r p = go (tried event-le (m .cut) (m 
         let few : i ≤ 1023 = leb-true _ _ (and-parts (order-number i) (tick t && (leb u 9 && (tick d && station-number k))) r .0) in
         let y : Event = record { time = t; kind = Arrive i k } in
         subst (λ y. Formed n m (event-tried (ordered i (new-order u d k)) m y)) (sym (q .is)) (record {
-            who = _;
-            left = n + 1;
-            base = declared-base (h .who) n m y (q .cut) inside (h .base) (h .orders) tt i k u d k refl next few (h .empty e) (h .quiet e);
-            orders = declared-orders (h .who) n m y (q .cut) inside (h .base) (h .orders) tt i k u d k refl next few (h .empty e) (h .quiet e);
-            quiet = h .quiet;
-            empty = h .empty;
-            count = omega arith;
-          })
+          who = _;
+          left = n + 1;
+          base = declared-base (h .who) n m y (q .cut) inside (h .base) (h .orders) tt i k u d k refl next few (h .empty e) (h .quiet e);
+          orders = declared-orders (h .who) n m y (q .cut) inside (h .base) (h .orders) tt i k u d k refl next few (h .empty e) (h .quiet e);
+          quiet = h .quiet;
+          empty = h .empty;
+          count = omega arith;
+        })
 accept-formed (a-withdraw i t) n m h e r p = formed-put n m (record { time = t; kind = Withdraw i }) h refl tt (λ j. foreign-withdrawal i j)
 accept-formed (a-close k t j) n m h e r p =
     let a = and-parts (station-number k) (tick t && station-number j) r in
@@ -203,6 +204,7 @@ form-leads f n m h = done (go (form-refusal f m) refl)
     there =
         let s = still (h .who) [] n m (with-refusal m None) refl refl refl refl refl (λ a q. a q) (h .base) (h .orders) in
         record { who = h .who; base = s .0; orders = s .1; timed = record { sound = h .timed .sound; draft = h .timed .draft }; quiet = h .quiet; empty = h .empty }
+
     go : (o : Option FormRefusal) → form-refusal f m ≡ o → Formed n (with-refusal m None) (form-by o f (with-refusal m None))
     go None p =
         let q = passed (in-range f) (not (is-some (m .end)) && form-in-place f m) (names-declared f (m .network)) p in
@@ -215,14 +217,14 @@ form-leads f n m h = done (go (form-refusal f m) refl)
         place-kept (a-close k t j) e = e
         place-kept (End t) e = e
     go (Some r) p = formed-still n (with-refusal m None) _ there refl refl refl refl refl (λ a q. a q) (λ q. q)
+
     done : Formed n (with-refusal m None) (form f m) → Leads (a-form f) n m
     done g = record {
-        left = g .left;
-        reached = record { who = g .who; base = g .base; orders = g .orders; timed = call-timed (a-form f) m (h .timed); quiet = g .quiet; empty = g .empty };
-        count = omega (arith, g .count);
-      }
+      left = g .left;
+      reached = record { who = g .who; base = g .base; orders = g .orders; timed = call-timed (a-form f) m (h .timed); quiet = g .quiet; empty = g .empty };
+      count = omega (arith, g .count);
+    }
 
 pub call-leads : (x : Call) (n : ℕ) (m : Machine) → Reached n m → Leads x n m
 call-leads (a-form f) n m h = form-leads f n m h
 call-leads a-step n m h = step-leads n m h
-

@@ -54,11 +54,11 @@ module _ (who : ℕ → LineEntry) where
   -- a record that tells nothing of any order
   silent-inv : (y : RecordKind) (h : List Hand) (n : ℕ) (m : Machine) → ((j : ℕ) → Silent j y) → Allowed who (λ j. place j (m .records)) (λ j. unfinished j (m .records)) y → waits-in y ≡ 0 → Inv who h n m → Inv who h n (tell y m)
   silent-inv y h n m s a z inv = record {
-      base = base-kept h n m (tell y m) refl refl who n (inv .base) (inv .base .written) (waits-push (m .records) _ ∙ omega (arith, z, inv .base .stamped)) (good-push who (m .records) _ (inv .base .good) a) (inv .base .left) (inv .base .ranged);
-      orders = carry h n m (tell y m) refl refl (λ f q. f q) (λ j. same-by m (tell y m) j (events-kept (m .events .state) j) (lines-kept (m .lines .state) j) (told-silent (m .records) _ j (s j))) (inv .orders);
-      sound = keeps .told y m (inv .sound);
-      calm = inv .calm;
-    }
+    base = base-kept h n m (tell y m) refl refl who n (inv .base) (inv .base .written) (waits-push (m .records) _ ∙ omega (arith, z, inv .base .stamped)) (good-push who (m .records) _ (inv .base .good) a) (inv .base .left) (inv .base .ranged);
+    orders = carry h n m (tell y m) refl refl (λ f q. f q) (λ j. same-by m (tell y m) j (events-kept (m .events .state) j) (lines-kept (m .lines .state) j) (told-silent (m .records) _ j (s j))) (inv .orders);
+    sound = keeps .told y m (inv .sound);
+    calm = inv .calm;
+  }
 
   -- a bench becomes free
   free-inv : (k : ℕ) (h : List Hand) (n : ℕ) (m : Machine) → Inv who h n m → Inv who h n (free-bench k m)
@@ -72,6 +72,7 @@ module _ (who : ℕ → LineEntry) where
     where
       released : Inv who (record { order = i; place = None; unfinished = false } ∷ []) n (release i k m)
       released = front-inv who k n (record { order = i; place = None; unfinished = false } ∷ []) (free-bench k (tell (Finish i k) m)) running (refl, tt) (free-inv k (record { order = i; place = None; unfinished = false } ∷ []) n (tell (Finish i k) m) inv)
+
       go : (b : Bool) → halted (release i k m) ≡ b → Inv who [] n (branch b (leave i k) (strand i) (release i k m))
       go false e = leave-inv who i k n (record { order = i; place = None; unfinished = false }) [] (release i k m) refl refl refl released
       go true e =
@@ -88,6 +89,7 @@ module _ (who : ℕ → LineEntry) where
     where
       missed : Inv who [] n (tell (Missed i) m)
       missed = silent-inv (Missed i) [] n m (missed-silent i) tt refl inv
+
       go : (st : OrderState) → order (m .network) i .state ≡ st → Inv who [] n (withdraw-by st i m)
       go NotYet e = missed
       go (Waiting s) e =
@@ -109,11 +111,11 @@ module _ (who : ℕ → LineEntry) where
           let x : Hand = record { order = i; place = None; unfinished = unfinished i (m .records) } in
           let net = freed k (marked i is-withdrawn (m .network)) in
           front-inv who k n [] (tell (Withdrawn i) (free-bench k (mark i is-withdrawn (cancel-event s m)))) running tt (record {
-              base = withdrawn-base who i n x [] (cancel-event s m) refl b o net (record { orders = refl; declared = refl });
-              orders = withdrawn-orders who i n x [] (cancel-event s m) refl b o net (record { orders = refl; declared = refl });
-              sound = keeps .told (Withdrawn i) (free-bench k (mark i is-withdrawn (cancel-event s m))) (keeps .event-cancelled s m (inv .sound));
-              calm = inv .calm;
-            })
+            base = withdrawn-base who i n x [] (cancel-event s m) refl b o net (record { orders = refl; declared = refl });
+            orders = withdrawn-orders who i n x [] (cancel-event s m) refl b o net (record { orders = refl; declared = refl });
+            sound = keeps .told (Withdrawn i) (free-bench k (mark i is-withdrawn (cancel-event s m))) (keeps .event-cancelled s m (inv .sound));
+            calm = inv .calm;
+          })
       go is-done e = missed
       go is-away e = missed
       go is-withdrawn e = missed
@@ -145,11 +147,11 @@ module _ (who : ℕ → LineEntry) where
           let q = inv .sound .lines-tidy .queues in
           let is = melded-is k j m lk lj ne in
           fill-inv 8 j n (close-into k j m) (record {
-              base = subst (Base who n) (sym is) (melded-base who n k j m (inv .base) (inv .orders) (omega (arith, q)) (omega (arith, q)) ne);
-              orders = subst (Orders [] n) (sym is) (melded-orders who n k j m (inv .base) (inv .orders) (omega (arith, q)) (omega (arith, q)) ne);
-              sound = keeps .told (Close k j (count-of (m .lines .state) k)) (meld-lines j k (with-network m (closed k j (m .network)))) (keeps .line-melded j k (with-network m (closed k j (m .network))) (inv .sound));
-              calm = inv .calm;
-            })
+            base = subst (Base who n) (sym is) (melded-base who n k j m (inv .base) (inv .orders) (omega (arith, q)) (omega (arith, q)) ne);
+            orders = subst (Orders [] n) (sym is) (melded-orders who n k j m (inv .base) (inv .orders) (omega (arith, q)) (omega (arith, q)) ne);
+            sound = keeps .told (Close k j (count-of (m .lines .state) k)) (meld-lines j k (with-network m (closed k j (m .network)))) (keeps .line-melded j k (with-network m (closed k j (m .network))) (inv .sound));
+            calm = inv .calm;
+          })
 
   -- the front event e is taken from m, and happens
   module _ (n : ℕ) (m : Machine) (inv : Inv who [] n m) (running : m .fault ≡ None) (e : Entry Event) (p : next-event m ≡ Some e) (s : Sound (taken e m)) where
@@ -163,30 +165,44 @@ module _ (who : ℕ → LineEntry) where
     -- as many arrivals as the event is are no longer left
     pub react-inv : (x : EventKind) → e .element .kind ≡ x → (q : ℕ) × (n ≡ q + is-arrival x) × Inv who [] q (react x (taken e m))
     react-inv (Arrive i k) is =
-        let l : n ≡ total any-arrival (taken e m .events .state) + 1 = omega (arith, inv .base .left, front-leaves (m .events .state) 0 e p .total any-arrival, ap is-arrival is) in
-        (_, l, enter-inv who i k _ (record { order = i; place = None; unfinished = false }) [] (taken e m) refl refl refl (record {
+        let l : n ≡ total any-arrival (taken e m .events .state) + 1 = omega (arith, inv .base .left, front-leaves (m .events .state) 0 e p .total any-arrival, ap is-arrival is) in (
+          _,
+          l,
+          enter-inv who i k _ (record { order = i; place = None; unfinished = false }) [] (taken e m) refl refl refl (record {
             base = arrived-base who n m (inv .base) (inv .orders) e p i k is;
             orders = arrived-orders who n m (inv .base) (inv .orders) e p i k is;
             sound = s;
             calm = inv .calm;
-          }))
-    react-inv (Finishing i k) is = (n, omega arith, finish-inv i k n (taken e m) running (record {
+          }),
+        )
+    react-inv (Finishing i k) is = (
+      n,
+      omega arith,
+      finish-inv i k n (taken e m) running (record {
         base = finished-base who n m (inv .base) (inv .orders) e p i k is;
         orders = finished-orders who n m (inv .base) (inv .orders) e p i k is;
         sound = keeps .told (Finish i k) (taken e m) s;
         calm = inv .calm;
-      }))
-    react-inv (Withdraw i) is = (n, omega arith, withdraw-inv i n (taken e m) running (record {
+      }),
+    )
+    react-inv (Withdraw i) is = (
+      n,
+      omega arith,
+      withdraw-inv i n (taken e m) running (record {
         base = other-base who n m (inv .base) (inv .orders) e p (ap is-arrival is) (λ j. subst (Foreign j) (sym is) (foreign-withdrawal i j));
         orders = other-orders who n m (inv .base) (inv .orders) e p (ap is-arrival is) (λ j. subst (Foreign j) (sym is) (foreign-withdrawal i j));
         sound = s;
         calm = inv .calm;
-      }))
+      }),
+    )
     react-inv (Closing k j) is =
-        let r : (k < 32) × (j < 32) = subst Stations is in-range in
-        (n, omega arith, close-inv k j n (taken e m) (r .0) (r .1) (record {
+        let r : (k < 32) × (j < 32) = subst Stations is in-range in (
+          n,
+          omega arith,
+          close-inv k j n (taken e m) (r .0) (r .1) (record {
             base = other-base who n m (inv .base) (inv .orders) e p (ap is-arrival is) (λ i. subst (Foreign i) (sym is) (foreign-closing k j i));
             orders = other-orders who n m (inv .base) (inv .orders) e p (ap is-arrival is) (λ i. subst (Foreign i) (sym is) (foreign-closing k j i));
             sound = s;
             calm = inv .calm;
-          }))
+          }),
+        )

@@ -78,16 +78,16 @@ module _ (who : ℕ → LineEntry) (n : ℕ) (m : Machine) (x : Event) (c : Opti
 
     pub declared-base : Base who-now (n + 1) v
     declared-base = record {
-        size = length-set (m .network .orders) i (new-order u d s) ∙ b .size;
-        few = omega (arith, next);
-        known = λ j. refl;
-        written = subst (λ (l : State LineEntry). All (All (Written who-now)) (l .lists)) (sym empty) (all-none 32);
-        stamped = b .stamped;
-        good = subst (Good who-now) (sym nothing) tt;
-        left = puts any-arrival ∙ omega (arith, ap is-arrival is, b .left);
-        undeclared = λ j le. state-there j (λ e. omega (arith, le, next, e)) ∙ b .undeclared j (omega arith);
-        ranged = ranged-more;
-      }
+      size = length-set (m .network .orders) i (new-order u d s) ∙ b .size;
+      few = omega (arith, next);
+      known = λ j. refl;
+      written = subst (λ (l : State LineEntry). All (All (Written who-now)) (l .lists)) (sym empty) (all-none 32);
+      stamped = b .stamped;
+      good = subst (Good who-now) (sym nothing) tt;
+      left = puts any-arrival ∙ omega (arith, ap is-arrival is, b .left);
+      undeclared = λ j le. state-there j (λ e. omega (arith, le, next, e)) ∙ b .undeclared j (omega arith);
+      ranged = ranged-more;
+    }
 
     was : Fits m i NotYet
     was = subst (Fits m i) (b .undeclared i (omega (arith, next))) (o .fits i tt)
@@ -96,8 +96,7 @@ module _ (who : ℕ → LineEntry) (n : ℕ) (m : Machine) (x : Event) (c : Opti
     here =
         let self : one (eqb i i) ≡ 1 = grind (arith, tells) in
         let new : one (ltb i (m .network .declared .orders + 1)) ≡ 1 = grind (arith, tells, next) in
-        let old : one (ltb i (m .network .declared .orders)) ≡ 0 = grind (arith, tells, next) in
-        (
+        let old : one (ltb i (m .network .declared .orders)) ≡ 0 = grind (arith, tells, next) in (
           record {
             arrivals = puts (arrival-of i) ∙ omega (arith, ap (arrives i) is, self, new, old, was .0 .arrivals);
             finishes = puts (finish-of i) ∙ omega (arith, ap (ends i) is, was .0 .finishes);
@@ -111,6 +110,7 @@ module _ (who : ℕ → LineEntry) (n : ℕ) (m : Machine) (x : Event) (c : Opti
       where
         same : Same m v j
         same = let q = put-same j (subst (Foreign j) (sym is) (foreign-arrival i k j ne)) in record { arrivals = q .arrivals; finishes = q .finishes; benches = q .benches; waits = q .waits; lines = q .lines; place = q .place; unfinished = q .unfinished }
+
         go : (z : OrderState) → Fits m j z → Fits v j z
         go NotYet p =
             let e : one (ltb j (m .network .declared .orders)) ≡ one (ltb j (m .network .declared .orders + 1)) = grind (arith, tells, next, ne) in
@@ -124,13 +124,13 @@ module _ (who : ℕ → LineEntry) (n : ℕ) (m : Machine) (x : Event) (c : Opti
 
     pub declared-orders : Orders [] (n + 1) v
     declared-orders = record {
-        pending =
-            let e : take (m .network .declared .orders + 1) (set (m .network .orders) i (new-order u d s)) ≡ take i (m .network .orders) ++ (new-order u d s ∷ []) = ap (λ y. take (y + 1) (set (m .network .orders) i (new-order u d s))) (sym next) ∙ take-more-set (m .network .orders) i (new-order u d s) (omega (arith, b .size)) in
-            ap (sumBy (λ (y : Order). pending-in (y .state))) e ∙ sumBy-push (λ (y : Order). pending-in (y .state)) (take i (m .network .orders)) (new-order u d s) ∙ omega (arith, ap (λ y. sumBy (λ (z : Order). pending-in (z .state)) (take y (m .network .orders))) next, o .pending);
-        hand = tt;
-        apart = tt;
-        fits = λ j q. go j (cases-eq j i);
-      }
+      pending =
+          let e : take (m .network .declared .orders + 1) (set (m .network .orders) i (new-order u d s)) ≡ take i (m .network .orders) ++ (new-order u d s ∷ []) = ap (λ y. take (y + 1) (set (m .network .orders) i (new-order u d s))) (sym next) ∙ take-more-set (m .network .orders) i (new-order u d s) (omega (arith, b .size)) in
+          ap (sumBy (λ (y : Order). pending-in (y .state))) e ∙ sumBy-push (λ (y : Order). pending-in (y .state)) (take i (m .network .orders)) (new-order u d s) ∙ omega (arith, ap (λ y. sumBy (λ (z : Order). pending-in (z .state)) (take y (m .network .orders))) next, o .pending);
+      hand = tt;
+      apart = tt;
+      fits = λ j q. go j (cases-eq j i);
+    }
       where
         go : (j : ℕ) → (j ≡ i) ⊎ (j ≡ i → ⊥) → Fits v j (order (v .network) j .state)
         go j (inl e) = subst (λ y. Fits v y (order (v .network) y .state)) (sym e) (subst (Fits v i) (sym (ap (λ (y : Order). y .state) (getD-set-same (m .network .orders) i (new-order u d s) no-order (omega (arith, b .size))))) here)

@@ -53,28 +53,28 @@ calls-lead (x ∷ xs) n m h = go (is-stopped (call x m)) refl (calls-lead xs (ca
 
 pub first-reached : (e l : Bounds) (c : Option ℕ) → Reached 0 (start-machine e l c)
 first-reached e l c = record {
-    who = λ i. line-entry cleared i;
-    base = record {
-        size = length-replicate 1024 no-order;
-        few = omega arith;
-        known = λ i. refl;
-        written = none (Entry LineEntry) (Written (λ i. line-entry cleared i)) 32;
-        stamped = refl;
-        good = tt;
-        left = refl;
-        undeclared = λ i le. replicate-has (λ (x : Order). x .state ≡ NotYet) 1024 i no-order refl;
-        ranged = none (Entry Event) Ranged 32;
-      };
-    orders = record {
-        pending = refl;
-        hand = tt;
-        apart = tt;
-        fits = λ i q. subst (Fits (start-machine e l c) i) (sym (replicate-has (λ (x : Order). x .state ≡ NotYet) 1024 i no-order refl)) (record { arrivals = sym (ap one (le-ltb i 0 (omega arith))); finishes = refl; waits = refl }, (refl, refl));
-      };
-    timed = first-timed e l c;
-    quiet = λ q. refl;
-    empty = λ q. refl;
-  }
+  who = λ i. line-entry cleared i;
+  base = record {
+    size = length-replicate 1024 no-order;
+    few = omega arith;
+    known = λ i. refl;
+    written = none (Entry LineEntry) (Written (λ i. line-entry cleared i)) 32;
+    stamped = refl;
+    good = tt;
+    left = refl;
+    undeclared = λ i le. replicate-has (λ (x : Order). x .state ≡ NotYet) 1024 i no-order refl;
+    ranged = none (Entry Event) Ranged 32;
+  };
+  orders = record {
+    pending = refl;
+    hand = tt;
+    apart = tt;
+    fits = λ i q. subst (Fits (start-machine e l c) i) (sym (replicate-has (λ (x : Order). x .state ≡ NotYet) 1024 i no-order refl)) (record { arrivals = sym (ap one (le-ltb i 0 (omega arith))); finishes = refl; waits = refl }, (refl, refl));
+  };
+  timed = first-timed e l c;
+  quiet = λ q. refl;
+  empty = λ q. refl;
+}
   where
     none : (A : Type 0) (P : A → Type 0) (w : ℕ) → All (All P) (replicate w [])
     none A P zero = tt

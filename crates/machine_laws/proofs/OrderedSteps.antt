@@ -47,32 +47,36 @@ Calm m v = m .refusal ≡ None → v .refusal ≡ None
 
 calm : Closed Calm
 calm = record {
-    same = λ m h. h;
-    then = λ m v w a b h. b (a h);
-    told = λ x m h. h;
-    marked = λ i st m h. h;
-    occupied = λ k m h. h;
-    freed = λ k m h. h;
-    closing = λ k j m e h. h;
-    event-put = λ x m e f h. h;
-    event-cancelled = λ k m h. h;
-    line-put = λ q x m e h. h;
-    line-taken = λ k m h. h;
-    line-cancelled = λ k m h. h;
-    line-melded = λ j k m h. h;
-    cut = λ c m h. h;
-    failed = λ f s m h. refl;
-  }
+  same = λ m h. h;
+  then = λ m v w a b h. b (a h);
+  told = λ x m h. h;
+  marked = λ i st m h. h;
+  occupied = λ k m h. h;
+  freed = λ k m h. h;
+  closing = λ k j m e h. h;
+  event-put = λ x m e f h. h;
+  event-cancelled = λ k m h. h;
+  line-put = λ q x m e h. h;
+  line-taken = λ k m h. h;
+  line-cancelled = λ k m h. h;
+  line-melded = λ j k m h. h;
+  cut = λ c m h. h;
+  failed = λ f s m h. refl;
+}
 
 module _ (who : ℕ → LineEntry) where
   -- nothing of orders, stores or records changes
   pub still : (h : List Hand) (n : ℕ) (m v : Machine) → v .network .orders ≡ m .network .orders → v .network .declared .orders ≡ m .network .declared .orders → v .events .state ≡ m .events .state → v .lines .state ≡ m .lines .state → v .records ≡ m .records → Stays m v → Base who n m → Orders h n m → Base who n v × Orders h n v
   still h n m v os d e l r f b o =
       let kept : (j : ℕ) → Same m v j = λ j. record {
-            arrivals = ap (total _) e; finishes = ap (total _) e; benches = λ k s. ap (total _) e; waits = ap (total _) l; lines = λ s k. ap (total _) l;
-            place = ap (place j) r; unfinished = ap (unfinished j) r;
-          } in
-      (
+        arrivals = ap (total _) e;
+        finishes = ap (total _) e;
+        benches = λ k s. ap (total _) e;
+        waits = ap (total _) l;
+        lines = λ s k. ap (total _) l;
+        place = ap (place j) r;
+        unfinished = ap (unfinished j) r;
+      } in (
         base-kept h n m v os d who n b (subst (λ x. All (All (Written who)) (x .lists)) (sym l) (b .written)) (ap waits r ∙ b .stamped ∙ ap (λ x. x .next) (sym l)) (subst (Good who) (sym r) (b .good)) (ap (total any-arrival) e ∙ b .left) (subst (λ x. All (All Ranged) (x .lists)) (sym e) (b .ranged)),
         carry h n m v os d f kept o,
       )
@@ -90,8 +94,10 @@ module _ (who : ℕ → LineEntry) where
     where
       done : Base who n (start i k m) × Orders h n (start i k m) → Inv who h n (start i k m)
       done p = record { base = p .0; orders = p .1; sound = start-walks _ keeps i k m (inv .sound); calm = start-walks _ calm i k m (inv .calm) }
+
       inside : 0 < length (m .events .state .lists)
       inside = omega (arith, inv .sound .events-tidy .queues)
+
       go : Refused event-le (m .cut) (m .events) 0 (finish-event i k m) ⊎ Accepted event-le (m .cut) (m .events) 0 (finish-event i k m) → Inv who h n (start i k m)
       go (inl p) = done (subst (λ t. Base who n (event-tried (started i k) m t) × Orders h n (event-tried (started i k) m t)) (sym (p .is)) (stranded i n x h m (p .cut) (p .refusal) Events xi inv))
       go (inr p) = done (subst (λ t. Base who n (event-tried (started i k) m t) × Orders h n (event-tried (started i k) m t)) (sym (p .is)) (start-base who i k n x h m (p .cut) xi (inv .base) (inv .orders) inside fair idle, start-orders who i k n x h m (p .cut) xi (inv .base) (inv .orders) inside fair idle))
@@ -105,14 +111,15 @@ module _ (who : ℕ → LineEntry) where
     where
       done : Base who n (wait i k m) × Orders h n (wait i k m) → Inv who h n (wait i k m)
       done p = record { base = p .0; orders = p .1; sound = wait-walks _ keeps i k m (inv .sound); calm = wait-walks _ calm i k m (inv .calm) }
+
       turned : (b : Bool) (f : Refusal) (c : Option ℕ) → Base who n (turned-away b i k f (with-cut m c)) × Orders h n (turned-away b i k f (with-cut m c))
       turned true f c =
-          let no-wait = waits-push (m .records) (record { at = m .instant; kind = Away i k }) ∙ omega arith in
-          (
+          let no-wait = waits-push (m .records) (record { at = m .instant; kind = Away i k }) ∙ omega arith in (
             gone-base who i k n x h m c xi (inv .base) (inv .orders) (Away i k) (away-silent i k) idle gone tt no-wait is-away,
             gone-orders who i k n x h m c xi (inv .base) (inv .orders) (Away i k) (away-silent i k) idle gone tt no-wait is-away refl (gone-spot who i k n x h m c xi (inv .base) (inv .orders) (Away i k) (away-silent i k) idle gone tt no-wait is-away, gone-settled who i k n x h m c xi (inv .base) (inv .orders) (Away i k) (away-silent i k) idle gone tt no-wait is-away),
           )
       turned false f c = stranded i n x h m c f order-store xi inv
+
       go : Refused line-le (m .cut) (m .lines) k (its-entry i m) ⊎ Accepted line-le (m .cut) (m .lines) k (its-entry i m) → Inv who h n (wait i k m)
       go (inl p) = done (subst (λ t. Base who n (line-tried (waited i k) m t) × Orders h n (line-tried (waited i k) m t)) (sym (p .is)) (turned (at-limit (p .refusal)) (p .refusal) (p .cut)))
       go (inr p) =
@@ -133,22 +140,23 @@ module _ (who : ℕ → LineEntry) where
       go : (o : Option (Entry LineEntry)) → line m k ≡ o → Inv who h n (start-by o k m)
       go None p = inv
       go (Some e) p = subst (λ v. Inv who h n (start (e .element .order) k v)) (sym (fronted-is m k e p)) (start-inv (e .element .order) k n (record { order = e .element .order; place = Some (k, e .stamp); unfinished = false }) h (fronted e k m) refl refl (front-fair who n k h m (inv .base) (inv .orders) (inv .sound .lines-tidy) e p running placeless) (record {
-          base = front-base who n k h m (inv .base) (inv .orders) (inv .sound .lines-tidy) e p;
-          orders = front-orders who n k h m (inv .base) (inv .orders) (inv .sound .lines-tidy) e p;
-          sound = subst Sound (fronted-is m k e p) (keeps .line-taken k m (inv .sound));
-          calm = inv .calm;
-        }))
+        base = front-base who n k h m (inv .base) (inv .orders) (inv .sound .lines-tidy) e p;
+        orders = front-orders who n k h m (inv .base) (inv .orders) (inv .sound .lines-tidy) e p;
+        sound = subst Sound (fronted-is m k e p) (keeps .line-taken k m (inv .sound));
+        calm = inv .calm;
+      }))
 
   pub leave-inv : (i k n : ℕ) (x : Hand) (h : List Hand) (m : Machine) → x .order ≡ i → x .unfinished ≡ false → x .place ≡ None → Inv who (x ∷ h) n m → Inv who h n (leave i k m)
   leave-inv i k n x h m xi idle gone inv = go (station (m .network) k .next)
     where
       no-wait : waits (m .records ++ (record { at = m .instant; kind = Done i } ∷ [])) ≡ waits (m .records)
       no-wait = waits-push (m .records) (record { at = m .instant; kind = Done i }) ∙ omega arith
+
       go : (o : Option ℕ) → Inv who h n (leave-by o i m)
       go None = record {
-          base = gone-base who i k n x h m (m .cut) xi (inv .base) (inv .orders) (Done i) (done-silent i) idle gone tt no-wait is-done;
-          orders = gone-orders who i k n x h m (m .cut) xi (inv .base) (inv .orders) (Done i) (done-silent i) idle gone tt no-wait is-done refl (gone-spot who i k n x h m (m .cut) xi (inv .base) (inv .orders) (Done i) (done-silent i) idle gone tt no-wait is-done, gone-settled who i k n x h m (m .cut) xi (inv .base) (inv .orders) (Done i) (done-silent i) idle gone tt no-wait is-done);
-          sound = keeps .told (Done i) (mark i is-done m) (inv .sound);
-          calm = inv .calm;
-        }
+        base = gone-base who i k n x h m (m .cut) xi (inv .base) (inv .orders) (Done i) (done-silent i) idle gone tt no-wait is-done;
+        orders = gone-orders who i k n x h m (m .cut) xi (inv .base) (inv .orders) (Done i) (done-silent i) idle gone tt no-wait is-done refl (gone-spot who i k n x h m (m .cut) xi (inv .base) (inv .orders) (Done i) (done-silent i) idle gone tt no-wait is-done, gone-settled who i k n x h m (m .cut) xi (inv .base) (inv .orders) (Done i) (done-silent i) idle gone tt no-wait is-done);
+        sound = keeps .told (Done i) (mark i is-done m) (inv .sound);
+        calm = inv .calm;
+      }
       go (Some j) = enter-inv i j n x h m xi idle gone inv

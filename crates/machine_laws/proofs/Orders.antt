@@ -138,11 +138,11 @@ fits-same m v i Stranded d f s p = (spot-same m v i 0 0 0 s (p .0), f (p .1))
 
 pub hand-same : (m v : Machine) (x : Hand) → v .network .declared .orders ≡ m .network .declared .orders → Same m v (x .order) → In-hand m x → In-hand v x
 hand-same m v x d s p = record {
-    declared = subst (λ y. x .order < y) (sym d) (p .declared);
-    spot = spot-same m v (x .order) 0 0 0 s (p .spot);
-    place = s .place ∙ p .place;
-    unfinished = s .unfinished ∙ p .unfinished;
-  }
+  declared = subst (λ y. x .order < y) (sym d) (p .declared);
+  spot = spot-same m v (x .order) 0 0 0 s (p .spot);
+  place = s .place ∙ p .place;
+  unfinished = s .unfinished ∙ p .unfinished;
+}
 
 pub hands-same : (m v : Machine) (i : ℕ) (h : List Hand) → v .network .declared .orders ≡ m .network .declared .orders → ((j : ℕ) → (j ≡ i → ⊥) → Same m v j) → Out h i → All (In-hand m) h → All (In-hand v) h
 hands-same m v i [] d s o p = tt

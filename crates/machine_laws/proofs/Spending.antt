@@ -57,16 +57,16 @@ module _ (who : ℕ → LineEntry) (n : ℕ) (m v : Machine) where
   -- after a change of one order's state, and of what the other parts say
   pub base-marked : (i : ℕ) (st : OrderState) → i < m .network .declared .orders → Base who n m → Marks i st (m .network) (v .network) → All (All (Written who)) (v .lines .state .lists) → waits (v .records) ≡ v .lines .state .next → Good who (v .records) → total any-arrival (v .events .state) ≡ n → All (All Ranged) (v .events .state .lists) → Base who n v
   base-marked i st lt b k w s g l z = record {
-      size = marks-size i st (m .network) (v .network) k ∙ b .size;
-      few = subst (λ d. d ≤ 1024) (sym (k .declared)) (b .few);
-      known = λ j. marks-known i st (m .network) (v .network) k j ∙ b .known j;
-      written = w;
-      stamped = s;
-      good = g;
-      left = l;
-      undeclared = λ j h. state-there i st (m .network) (v .network) k j (λ e. absurd (omega (arith, lt, h, k .declared, e))) ∙ b .undeclared j (subst (λ d. d ≤ j) (k .declared) h);
-      ranged = z;
-    }
+    size = marks-size i st (m .network) (v .network) k ∙ b .size;
+    few = subst (λ d. d ≤ 1024) (sym (k .declared)) (b .few);
+    known = λ j. marks-known i st (m .network) (v .network) k j ∙ b .known j;
+    written = w;
+    stamped = s;
+    good = g;
+    left = l;
+    undeclared = λ j h. state-there i st (m .network) (v .network) k j (λ e. absurd (omega (arith, lt, h, k .declared, e))) ∙ b .undeclared j (subst (λ d. d ≤ j) (k .declared) h);
+    ranged = z;
+  }
 
 pub roomy : (who : ℕ → LineEntry) (n : ℕ) (m : Machine) → Base who n m → m .network .declared .orders ≤ length (m .network .orders)
 roomy who n m b = omega (arith, b .few, b .size)
@@ -106,8 +106,7 @@ module _ (who : ℕ → LineEntry) (i k n : ℕ) (x : Hand) (h : List Hand) (m :
 
     pub start-orders : Orders h n begun
     start-orders = spend i (InService k (m .events .state .next)) x h n m begun xi o (roomy who n m b) marks refl (λ f q. f q)
-        (λ j ne. same-by m begun j (event-put (m .events .state) _ (m .events .state .next) j inside (foreign-finish i k j ne)) (lines-kept (m .lines .state) j) (told-silent (m .records) _ j (start-silent i k j ne)))
-        (
+        (λ j ne. same-by m begun j (event-put (m .events .state) _ (m .events .state .next) j inside (foreign-finish i k j ne)) (lines-kept (m .lines .state) j) (told-silent (m .records) _ j (start-silent i k j ne))) (
           record { arrivals = puts (arrival-of i) ∙ omega (arith, spot-in .arrivals); finishes = puts (finish-of i) ∙ omega (arith, spot-in .finishes, ap one (same-number i)); waits = spot-in .waits },
           (place-push i (m .records) _ ∙ ap (λ t. cond t None (place i (m .records))) (same-number i), omega (arith, puts (finish-with i k (m .events .state .next)), here)),
         )
@@ -139,8 +138,7 @@ module _ (who : ℕ → LineEntry) (i k n : ℕ) (x : Hand) (h : List Hand) (m :
 
     pub wait-orders : Orders h n queued
     wait-orders = spend i (Waiting (m .lines .state .next)) x h n m queued xi o (roomy who n m b) wait-marks refl (λ f q. f q)
-        (λ j ne. same-by m queued j (events-kept (m .events .state) j) (line-put (m .lines .state) k (m .lines .state .next) j (its-entry i m) inside ne) (told-silent (m .records) _ j (wait-silent i k j ne)))
-        (
+        (λ j ne. same-by m queued j (events-kept (m .events .state) j) (line-put (m .lines .state) k (m .lines .state .next) j (its-entry i m) inside ne) (told-silent (m .records) _ j (wait-silent i k j ne))) (
           record { arrivals = spot-in .arrivals; finishes = spot-in .finishes; waits = enters (wait-of i) ∙ omega (arith, spot-in .waits, ap one (same-number i)) },
           (
             k,
@@ -169,8 +167,7 @@ module _ (who : ℕ → LineEntry) (i k n : ℕ) (x : Hand) (h : List Hand) (m :
 
     pub gone-settled : (st : OrderState) → (unfinished i (left-as st .records) ≡ false) × (place i (left-as st .records) ≡ None)
     gone-settled st =
-        let t = told-silent (m .records) (record { at = m .instant; kind = y }) i (silent i) in
-        (
+        let t = told-silent (m .records) (record { at = m .instant; kind = y }) i (silent i) in (
           t .unfinished ∙ subst (λ j. unfinished j (m .records) ≡ x .unfinished) xi (o .hand .0 .unfinished) ∙ idle,
           t .place ∙ subst (λ j. place j (m .records) ≡ x .place) xi (o .hand .0 .place) ∙ nowhere,
         )

@@ -63,8 +63,10 @@ module _ {T : Type 0} (le : T → T → Bool) (law : Strict (precedes-by le) sta
     where
       e : Entry T
       e = record { element = x; stamp = s .next }
+
       apart : (k : ℕ) → cond (eqb (s .next) k) 1 0 + tally stamp-of (list-of s q) k ≤ 1
       apart k = grind (arith, tells, one-queue q k)
+
       counts : (k : ℕ) → total (stamp-is k) (with-list s q (insert (precedes-by le) (record { element = x; stamp = s .next }) (list-of s q))) ≤ cond (ltb k (s .next + 1)) 1 0
       counts k = grind (arith, tells, total-put (stamp-is k) le s q x (s .next) (omega (arith, h .queues)), h .stamps k)
 
@@ -86,6 +88,7 @@ module _ {T : Type 0} (le : T → T → Bool) (law : Strict (precedes-by le) sta
     where
       by : (x y z : Bool) → leb 32 a ≡ x → leb 32 b ≡ y → eqb a b ≡ z → Tidy le (meld-after le s a b (cond (x || y) (Err QueueNumber) (cond z (Err SameQueue) (Ok (count-of s b))))) → Tidy le (meld-after le s a b (meld-answer s a b))
       by x y z p q r t = subst (λ b3. Tidy le (meld-after le s a b (cond (leb 32 a || leb 32 b) (Err QueueNumber) (cond b3 (Err SameQueue) (Ok (count-of s b)))))) (sym r) (subst (λ b2. Tidy le (meld-after le s a b (cond (leb 32 a || b2) (Err QueueNumber) (cond z (Err SameQueue) (Ok (count-of s b)))))) (sym q) (subst (λ b1. Tidy le (meld-after le s a b (cond (b1 || y) (Err QueueNumber) (cond z (Err SameQueue) (Ok (count-of s b)))))) (sym p) t))
+
       go : (a < 32) ⊎ (32 ≤ a) → (b < 32) ⊎ (32 ≤ b) → (a ≡ b) ⊎ (a ≡ b → ⊥) → Tidy le (meld-after le s a b (meld-answer s a b))
       go (inr p) q r = by true (leb 32 b) (eqb a b) (le-leb 32 a p) refl refl h
       go (inl p) (inr q) r = by false true (eqb a b) (lt-leb 32 a p) (le-leb 32 b q) refl h

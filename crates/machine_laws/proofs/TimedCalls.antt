@@ -73,14 +73,14 @@ pub sound-taken : (m : Machine) (e : Entry Event) → next-event m ≡ Some e �
 sound-taken m e p h =
     let s = m .events .state in
     subst (λ (o : Option (Entry Event)). Kept (e .element .time) (record { state = take-after s 0 (Ok o); bounds = m .events .bounds; taken = m .events .taken + 1 }) (m .lines .state) (m .records)) (sym p) (record {
-        events-tidy = tidy-take event-le event-strict s (h .events-tidy) 0 (Some e) p;
-        lines-tidy = h .lines-tidy;
-        late = subst (All (Late (e .element .time))) (sym (getD-set-same (s .lists) 0 (rest (list-of s 0)) [] (omega (arith, h .events-tidy .queues)))) (front-late (list-of s 0) e p (sorted-at event-le event-strict s (h .events-tidy) 0));
-        rising = h .rising;
-        past = let le = late-front (m .instant) (list-of s 0) e p (h .late) in all-weaker (λ (r : Record). r .at ≤ m .instant) (λ (r : Record). r .at ≤ e .element .time) (λ r q. omega arith) (m .records) (h .past);
-        spent = omega (arith, h .spent, adds-up event-le .take s 0 e p);
-        stamps = h .stamps;
-      })
+      events-tidy = tidy-take event-le event-strict s (h .events-tidy) 0 (Some e) p;
+      lines-tidy = h .lines-tidy;
+      late = subst (All (Late (e .element .time))) (sym (getD-set-same (s .lists) 0 (rest (list-of s 0)) [] (omega (arith, h .events-tidy .queues)))) (front-late (list-of s 0) e p (sorted-at event-le event-strict s (h .events-tidy) 0));
+      rising = h .rising;
+      past = let le = late-front (m .instant) (list-of s 0) e p (h .late) in all-weaker (λ (r : Record). r .at ≤ m .instant) (λ (r : Record). r .at ≤ e .element .time) (λ r q. omega arith) (m .records) (h .past);
+      spent = omega (arith, h .spent, adds-up event-le .take s 0 e p);
+      stamps = h .stamps;
+    })
 
 pub record Timed (m : Machine) : Type 0 where
   pub sound : Sound m
@@ -141,9 +141,9 @@ call-timed a-step m h = step-timed m h
 
 pub first-timed : (e l : Bounds) (c : Option ℕ) → Timed (start-machine e l c)
 first-timed e l c = record {
-    sound = record { events-tidy = tidy-fresh event-le; lines-tidy = tidy-fresh line-le; late = tt; rising = tt; past = tt; spent = omega arith; stamps = omega arith };
-    draft = λ q. refl;
-  }
+  sound = record { events-tidy = tidy-fresh event-le; lines-tidy = tidy-fresh line-le; late = tt; rising = tt; past = tt; spent = omega arith; stamps = omega arith };
+  draft = λ q. refl;
+}
 
 pub reached-sound : (xs : List Call) (e l : Bounds) (c : Option ℕ) → Sound (after xs e l c)
 reached-sound xs e l c = calls-keep Timed call-timed xs (start-machine e l c) (first-timed e l c) .sound
@@ -157,22 +157,22 @@ Taken m v = (v .events .taken ≡ m .events .taken) × (v .events .bounds ≡ m 
 
 taken : Closed Taken
 taken = record {
-    same = λ m. (refl, refl);
-    then = λ m v w a b. (b .0 ∙ a .0, b .1 ∙ a .1);
-    told = λ x m. (refl, refl);
-    marked = λ i st m. (refl, refl);
-    occupied = λ k m. (refl, refl);
-    freed = λ k m. (refl, refl);
-    closing = λ k j m e. (refl, refl);
-    event-put = λ x m e f. (refl, refl);
-    event-cancelled = λ k m. (refl, refl);
-    line-put = λ q x m e. (refl, refl);
-    line-taken = λ k m. (refl, refl);
-    line-cancelled = λ k m. (refl, refl);
-    line-melded = λ j k m. (refl, refl);
-    cut = λ c m. (refl, refl);
-    failed = λ f s m. (refl, refl);
-  }
+  same = λ m. (refl, refl);
+  then = λ m v w a b. (b .0 ∙ a .0, b .1 ∙ a .1);
+  told = λ x m. (refl, refl);
+  marked = λ i st m. (refl, refl);
+  occupied = λ k m. (refl, refl);
+  freed = λ k m. (refl, refl);
+  closing = λ k j m e. (refl, refl);
+  event-put = λ x m e f. (refl, refl);
+  event-cancelled = λ k m. (refl, refl);
+  line-put = λ q x m e. (refl, refl);
+  line-taken = λ k m. (refl, refl);
+  line-cancelled = λ k m. (refl, refl);
+  line-melded = λ j k m. (refl, refl);
+  cut = λ c m. (refl, refl);
+  failed = λ f s m. (refl, refl);
+}
 
 -- an event that is due is one of those that are left
 some-left : (m : Machine) (x : Event) → due-event m ≡ Some x → Sound m → m .events .taken < m .events .bounds .stamps

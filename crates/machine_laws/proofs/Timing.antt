@@ -90,41 +90,41 @@ module _ (k : ℕ) (s : State Event) where
 
 pub keeps : Closed Keeps
 keeps = record {
-    same = λ m h. h;
-    then = λ m v w a b h. b (a h);
-    told = λ x m h. record { events-tidy = h .events-tidy; lines-tidy = h .lines-tidy; late = h .late; rising = rising-push (m .records) _ (h .rising) (h .past); past = all-push _ (m .records) _ (h .past) (le-refl _); spent = h .spent; stamps = h .stamps };
-    marked = λ i st m h. h;
-    occupied = λ k m h. h;
-    freed = λ k m h. h;
-    closing = λ k j m e h. h;
-    event-put = λ x m late free h.
-        let s = m .events .state in
-        let inside : 0 < length (s .lists) = omega (arith, h .events-tidy .queues) in
-        record {
-          events-tidy = tidy-put event-le event-strict s (h .events-tidy) 0 x (omega arith);
-          lines-tidy = h .lines-tidy;
-          late = subst (All (Late (m .instant))) (sym (getD-set-same (s .lists) 0 _ [] inside)) (all-insert (Late (m .instant)) (precedes-by event-le) (record { element = x; stamp = s .next }) (list-of s 0) late (h .late));
-          rising = h .rising;
-          past = h .past;
-          spent = omega (arith, h .spent, adds-up event-le .put s 0 x (s .next) inside);
-          stamps = let ne = eqb-false _ _ free in let le = h .stamps in grind (arith, tells, ne, le);
-        };
-    event-cancelled = λ k m h.
-        let s = m .events .state in
-        let o = queue-with k (s .lists) 0 in
-        record {
-          events-tidy = tidy-cancel event-le event-strict s (h .events-tidy) k;
-          lines-tidy = h .lines-tidy;
-          late = cancelled-by k s (m .instant) o refl (omega (arith, h .events-tidy .queues)) (h .late);
-          rising = h .rising;
-          past = h .past;
-          spent = omega (arith, h .spent, fewer k s o refl, next-same k s o);
-          stamps = omega (arith, h .stamps, next-same k s o);
-        };
-    line-put = λ q x m e h. record { events-tidy = h .events-tidy; lines-tidy = tidy-put line-le line-strict (m .lines .state) (h .lines-tidy) q x (leb-false _ _ e); late = h .late; rising = h .rising; past = h .past; spent = h .spent; stamps = h .stamps };
-    line-taken = λ k m h. record { events-tidy = h .events-tidy; lines-tidy = tidy-take line-le line-strict (m .lines .state) (h .lines-tidy) k _ refl; late = h .late; rising = h .rising; past = h .past; spent = h .spent; stamps = h .stamps };
-    line-cancelled = λ k m h. record { events-tidy = h .events-tidy; lines-tidy = tidy-cancel line-le line-strict (m .lines .state) (h .lines-tidy) k; late = h .late; rising = h .rising; past = h .past; spent = h .spent; stamps = h .stamps };
-    line-melded = λ j k m h. record { events-tidy = h .events-tidy; lines-tidy = tidy-meld line-le line-strict (m .lines .state) (h .lines-tidy) j k; late = h .late; rising = h .rising; past = h .past; spent = h .spent; stamps = h .stamps };
-    cut = λ c m h. h;
-    failed = λ f s m h. h;
-  }
+  same = λ m h. h;
+  then = λ m v w a b h. b (a h);
+  told = λ x m h. record { events-tidy = h .events-tidy; lines-tidy = h .lines-tidy; late = h .late; rising = rising-push (m .records) _ (h .rising) (h .past); past = all-push _ (m .records) _ (h .past) (le-refl _); spent = h .spent; stamps = h .stamps };
+  marked = λ i st m h. h;
+  occupied = λ k m h. h;
+  freed = λ k m h. h;
+  closing = λ k j m e h. h;
+  event-put = λ x m late free h.
+      let s = m .events .state in
+      let inside : 0 < length (s .lists) = omega (arith, h .events-tidy .queues) in
+      record {
+        events-tidy = tidy-put event-le event-strict s (h .events-tidy) 0 x (omega arith);
+        lines-tidy = h .lines-tidy;
+        late = subst (All (Late (m .instant))) (sym (getD-set-same (s .lists) 0 _ [] inside)) (all-insert (Late (m .instant)) (precedes-by event-le) (record { element = x; stamp = s .next }) (list-of s 0) late (h .late));
+        rising = h .rising;
+        past = h .past;
+        spent = omega (arith, h .spent, adds-up event-le .put s 0 x (s .next) inside);
+        stamps = let ne = eqb-false _ _ free in let le = h .stamps in grind (arith, tells, ne, le);
+      };
+  event-cancelled = λ k m h.
+      let s = m .events .state in
+      let o = queue-with k (s .lists) 0 in
+      record {
+        events-tidy = tidy-cancel event-le event-strict s (h .events-tidy) k;
+        lines-tidy = h .lines-tidy;
+        late = cancelled-by k s (m .instant) o refl (omega (arith, h .events-tidy .queues)) (h .late);
+        rising = h .rising;
+        past = h .past;
+        spent = omega (arith, h .spent, fewer k s o refl, next-same k s o);
+        stamps = omega (arith, h .stamps, next-same k s o);
+      };
+  line-put = λ q x m e h. record { events-tidy = h .events-tidy; lines-tidy = tidy-put line-le line-strict (m .lines .state) (h .lines-tidy) q x (leb-false _ _ e); late = h .late; rising = h .rising; past = h .past; spent = h .spent; stamps = h .stamps };
+  line-taken = λ k m h. record { events-tidy = h .events-tidy; lines-tidy = tidy-take line-le line-strict (m .lines .state) (h .lines-tidy) k _ refl; late = h .late; rising = h .rising; past = h .past; spent = h .spent; stamps = h .stamps };
+  line-cancelled = λ k m h. record { events-tidy = h .events-tidy; lines-tidy = tidy-cancel line-le line-strict (m .lines .state) (h .lines-tidy) k; late = h .late; rising = h .rising; past = h .past; spent = h .spent; stamps = h .stamps };
+  line-melded = λ j k m h. record { events-tidy = h .events-tidy; lines-tidy = tidy-meld line-le line-strict (m .lines .state) (h .lines-tidy) j k; late = h .late; rising = h .rising; past = h .past; spent = h .spent; stamps = h .stamps };
+  cut = λ c m h. h;
+  failed = λ f s m h. h;
+}

@@ -130,11 +130,11 @@ module _ {T : Type 0} where
       let at : q ≡ p .0 = omega (arith, p .1) in
       let r = removed k (list-of s (p .0)) (p .3) in
       subst (λ i. Leaves s (cancel-after s k (Ok i)) k) (sym at) (record {
-          entry = r .entry;
-          queue = p .0;
-          stamp = r .stamp;
-          total = λ f. omega (arith, total-with f s (p .0) (without stamp-of k (list-of s (p .0))) (p .2), r .sum (f (p .0)));
-        })
+        entry = r .entry;
+        queue = p .0;
+        stamp = r .stamp;
+        total = λ f. omega (arith, total-with f s (p .0) (without stamp-of k (list-of s (p .0))) (p .2), r .sum (f (p .0)));
+      })
 
   -- a stamp that is there is cancelled
   pub cancel-leaves : (s : State T) (k : ℕ) → 1 ≤ total (stamp-is k) s → Leaves s (cancel-after s k (found 0 (queue-with k (s .lists) 0))) k

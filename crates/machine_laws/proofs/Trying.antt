@@ -34,6 +34,7 @@ module _ {T : Type 0} (le : T → T → Bool) (c : Option ℕ) (s : Store T) (q 
     where
       at : (a b d : Bool) (o : Option ℕ) → leb 32 q ≡ a → reached (bound-at (s .bounds) q) (count-of (s .state) q) ≡ b → eqb (s .state .next) (s .bounds .stamps) ≡ d → c ≡ o → try le c s q x ≡ tried-by le a b d height o (s .state) q x
       at a b d o ea eb ed eo = λ i. tried-by le (ea i) (eb i) (ed i) height (eo i) (s .state) q x
+
       go : (a b d : Bool) (o : Option ℕ) → leb 32 q ≡ a → reached (bound-at (s .bounds) q) (count-of (s .state) q) ≡ b → eqb (s .state .next) (s .bounds .stamps) ≡ d → c ≡ o → Refused ⊎ Accepted
       go true b d o ea eb ed eo = inl (record { refusal = _; cut = _; is = at true b d o ea eb ed eo })
       go false true d o ea eb ed eo = inl (record { refusal = _; cut = _; is = at false true d o ea eb ed eo })

@@ -82,10 +82,10 @@ neither false = refl
 -- such an event is put
 pub event-put : (e : State Event) (x : Event) (n j : ℕ) → 0 < length (e .lists) → Foreign j (x .kind) → Events-same e (put-after event-le e 0 x (Ok n)) j
 event-put e x n j lt h = record {
-    arrivals = omega (arith, put (arrival-of j), h .arrives);
-    finishes = omega (arith, put (finish-of j), h .ends);
-    benches = λ l s. omega (arith, put (finish-with j l s), ap (λ y. cond (eqb n s) y 0) (h .ends-at l) ∙ neither (eqb n s));
-  }
+  arrivals = omega (arith, put (arrival-of j), h .arrives);
+  finishes = omega (arith, put (finish-of j), h .ends);
+  benches = λ l s. omega (arith, put (finish-with j l s), ap (λ y. cond (eqb n s) y 0) (h .ends-at l) ∙ neither (eqb n s));
+}
   where
     put : (f : ℕ → Entry Event → ℕ) → total f (put-after event-le e 0 x (Ok n)) ≡ total f e + f 0 (record { element = x; stamp = n })
     put f = total-put f event-le e 0 x n lt
@@ -93,9 +93,9 @@ event-put e x n j lt h = record {
 -- order i is put in line q
 pub line-put : (l : State LineEntry) (q n j : ℕ) (x : LineEntry) → q < length (l .lists) → (j ≡ x .order → ⊥) → Lines-same l (put-after line-le l q x (Ok n)) j
 line-put l q n j x lt ne = record {
-    waits = omega (arith, total-put (wait-of j) line-le l q x n lt, other (x .order) j ne);
-    lines = λ s k. omega (arith, total-put (wait-at j s k) line-le l q x n lt, none s k);
-  }
+  waits = omega (arith, total-put (wait-of j) line-le l q x n lt, other (x .order) j ne);
+  lines = λ s k. omega (arith, total-put (wait-at j s k) line-le l q x n lt, none s k);
+}
   where
     none : (s k : ℕ) → wait-at j s k q (record { element = x; stamp = n }) ≡ 0
     none s k = ap (λ y. cond (eqb q k) (cond (eqb n s) y 0) 0) (other (x .order) j ne) ∙ grind (arith, tells)
@@ -103,16 +103,16 @@ line-put l q n j x lt ne = record {
 -- an entry leaves that is not of order j
 pub event-left : (e f : State Event) (k j : ℕ) (x : Leaves e f k) → Foreign j (x .entry .element .kind) → Events-same e f j
 event-left e f k j x h = record {
-    arrivals = omega (arith, x .total (arrival-of j), h .arrives);
-    finishes = omega (arith, x .total (finish-of j), h .ends);
-    benches = λ l s. omega (arith, x .total (finish-with j l s), ap (λ n. cond (eqb (x .entry .stamp) s) n 0) (h .ends-at l) ∙ neither (eqb (x .entry .stamp) s));
-  }
+  arrivals = omega (arith, x .total (arrival-of j), h .arrives);
+  finishes = omega (arith, x .total (finish-of j), h .ends);
+  benches = λ l s. omega (arith, x .total (finish-with j l s), ap (λ n. cond (eqb (x .entry .stamp) s) n 0) (h .ends-at l) ∙ neither (eqb (x .entry .stamp) s));
+}
 
 pub line-left : (l r : State LineEntry) (k j : ℕ) (x : Leaves l r k) → (j ≡ x .entry .element .order → ⊥) → Lines-same l r j
 line-left l r k j x ne = record {
-    waits = omega (arith, x .total (wait-of j), other (x .entry .element .order) j ne);
-    lines = λ s q. omega (arith, x .total (wait-at j s q), none s q);
-  }
+  waits = omega (arith, x .total (wait-of j), other (x .entry .element .order) j ne);
+  lines = λ s q. omega (arith, x .total (wait-at j s q), none s q);
+}
   where
     none : (s q : ℕ) → wait-at j s q (x .queue) (x .entry) ≡ 0
     none s q = ap (λ y. cond (eqb (x .queue) q) (cond (eqb (x .entry .stamp) s) y 0) 0) (other (x .entry .element .order) j ne) ∙ grind (arith, tells)

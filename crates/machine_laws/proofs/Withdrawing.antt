@@ -123,11 +123,11 @@ module _ (who : ℕ → LineEntry) (i s n : ℕ) (m : Machine) (b : Base who n m
         hold _ [] n n m (cancel-line s m) tt o refl (omega (arith, ap pending-in is)) (λ x y. x y)
         (λ j ne. same-by m (cancel-line s m) j (events-kept (m .events .state) j) (line-left (m .lines .state) after-cancel s j l (λ q. ne (q ∙ its-order))) (told-kept (m .records) j))
         (record {
-            declared = is-declared who n m i b (ap pending-in is);
-            spot = record { arrivals = f .0 .arrivals; finishes = f .0 .finishes; waits = omega (arith, l .total (wait-of i), mine, f .0 .waits) };
-            place = f .1 .2;
-            unfinished = f .1 .1;
-          })
+          declared = is-declared who n m i b (ap pending-in is);
+          spot = record { arrivals = f .0 .arrivals; finishes = f .0 .finishes; waits = omega (arith, l .total (wait-of i), mine, f .0 .waits) };
+          place = f .1 .2;
+          unfinished = f .1 .1;
+        })
 
   -- it is in service at station k, its finish has the stamp s
   module _ (k : ℕ) (tidy : Tidy event-le (m .events .state)) (is : order (m .network) i .state ≡ InService k s) where
@@ -163,8 +163,8 @@ module _ (who : ℕ → LineEntry) (i s n : ℕ) (m : Machine) (b : Base who n m
         hold _ [] n n m (cancel-event s m) tt o refl (omega (arith, ap pending-in is)) (λ x y. x y)
         (λ j ne. same-by m (cancel-event s m) j (event-left (m .events .state) events-after s j l (subst (Foreign j) (sym its-finish) (foreign-finish i k j ne))) (lines-kept (m .lines .state) j) (told-kept (m .records) j))
         (record {
-            declared = is-declared who n m i b (ap pending-in is);
-            spot = record { arrivals = omega (arith, l .total (arrival-of i), ap (arrives i) its-finish, f .0 .arrivals); finishes = omega (arith, l .total (finish-of i), ap (ends i) its-finish, ap one (same-number i), f .0 .finishes); waits = f .0 .waits };
-            place = f .1 .0;
-            unfinished = refl;
-          })
+          declared = is-declared who n m i b (ap pending-in is);
+          spot = record { arrivals = omega (arith, l .total (arrival-of i), ap (arrives i) its-finish, f .0 .arrivals); finishes = omega (arith, l .total (finish-of i), ap (ends i) its-finish, ap one (same-number i), f .0 .finishes); waits = f .0 .waits };
+          place = f .1 .0;
+          unfinished = refl;
+        })

@@ -1,4 +1,6 @@
 // 32 queues, each a binomial heap in the cells of two lent slices, links and entries, for any element type.
+#![tactic(auto)]
+
 mod idle;
 mod queues;
 

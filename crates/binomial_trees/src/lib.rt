@@ -1,4 +1,6 @@
 // Trees and heaps of binomial shape whose nodes are cells of two lent slices, links and entries, for any element type.
+#![tactic(auto)]
+
 mod links;
 mod roots;
 mod trees;

@@ -1,5 +1,7 @@
 // What a heap means when some of its entries are cancelled: definitions, theorems about them for the layer that cancels
 // lazily, and examples that the checker computes on the definitions.
+#![tactic(auto)]
+
 ghost use Rattle.cancelled.specs.Examples.{BehindStays, FrontLeaves};
 
 // With two cells and two entries in one queue, the one behind is cancelled: held is 1, and a put is refused with 12.

@@ -1,5 +1,7 @@
 // What all heaps share: trees whose nodes are cells of two lent slices, one tree to a queue, and the idle cells in a
 // chain.
+#![tactic(auto)]
+
 mod heads;
 mod making;
 

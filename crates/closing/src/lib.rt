@@ -1,4 +1,6 @@
 // Counts the declared orders of a network by their state.
+#![tactic(auto)]
+
 ghost use Rattle.std.specs.Prelude.{◌≡◌, ◌<◌};
 ghost use Rattle.machine.specs.Closing.{one_in, totals as totals-in};
 ghost use Rattle.closing.specs.Counting.{whole, plus};

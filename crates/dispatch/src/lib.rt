@@ -1,4 +1,6 @@
 // Dispatching: orders enter a waiting line, and a bench serves them in the order of the line.
+#![tactic(auto)]
+
 ghost use Rattle.std.specs.Prelude.{◌≡◌, Bool, List, length, Ok, count_by, MatchResult};
 ghost use Rattle.elements.specs.Elements.{line_le};
 ghost use Rattle.elements.specs.Order.{precedes_by};

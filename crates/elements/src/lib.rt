@@ -1,4 +1,6 @@
 // What the stores keep in order: elements, ordered by one question, and entries, which carry a stamp too.
+#![tactic(auto)]
+
 mod entries;
 mod events;
 mod lines;

@@ -1,5 +1,7 @@
 // What a form of a script writes, and that the machine's reader accepts exactly that. There is nothing to compute here:
 // each function stands for the theorem in its contract.
+#![tactic(auto)]
+
 ghost use Rattle.std.specs.Prelude.{◌≡◌, ℕ, ◌^◌, ◌<◌, List, Some, decimal};
 ghost use Rattle.machine.specs.declared.forms.Form.{Form};
 ghost use Rattle.machine.specs.Machine.{Machine};

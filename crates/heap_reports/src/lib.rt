@@ -1,4 +1,6 @@
 // What is printed for a waiting line whose orders go through a bare heap.
+#![tactic(auto)]
+
 ghost use Rattle.std.specs.Prelude.{IfOk, string_bytes};
 ghost use Rattle.elements.specs.Elements.{line_le};
 ghost use Rattle.stores.specs.Meaning.{WellFormed};

@@ -1,4 +1,6 @@
 // Tests that every bare heap has to pass, over each of them, and that all stores answer alike.
+#![tactic(auto)]
+
 #[cfg(test)]
 mod agreement;
 #[cfg(test)]

@@ -34,10 +34,10 @@ impl<B: Agenda> Journal<B> {
     // The layer over this store, with so many places and no change in them.
     pub fn make(below: B, used: u16) -> Journal<B>
         requires sound { B.Agenda.sound below }
-        requires formed { WellFormed Item-as-Ordered.le (B.Agenda.meaning below) }
+        requires formed { WellFormed B.Item.Ordered.le (B.Agenda.meaning below) }
         requires fit { Fit (B.Agenda.meaning below) used }
-        ensures sound { journal_sound Item-as-Ordered.le B.Agenda.sound B.Agenda.meaning result }
-        ensures formed { WellFormed Item-as-Ordered.le (journal_meaning B.Agenda.meaning result) }
+        ensures sound { journal_sound B.Item.Ordered.le B.Agenda.sound B.Agenda.meaning result }
+        ensures formed { WellFormed B.Item.Ordered.le (journal_meaning B.Agenda.meaning result) }
         ensures meaning { journal_meaning B.Agenda.meaning result ≡ raised (B.Agenda.meaning below) }
         ensures used { result.own.used ≡ used }
         ensures history { History result.own [] }
@@ -48,7 +48,7 @@ impl<B: Agenda> Journal<B> {
 
     // The i-th oldest of the changes kept, counted from 0, or none.
     pub fn oldest(&self, i: u16) -> Option<Change>
-        requires { journal_sound Item-as-Ordered.le B.Agenda.sound B.Agenda.meaning self.now }
+        requires { journal_sound B.Item.Ordered.le B.Agenda.sound B.Agenda.meaning self.now }
         ensures { result ≡ slice_get (recent self.now.own) i }
     {
         self.own.oldest(i)

@@ -1,4 +1,6 @@
 // A journal of the last accepted changes, over any agenda.
+#![tactic(auto)]
+
 mod journals;
 mod logs;
 

@@ -34,11 +34,11 @@ impl<B: BareHeap> Lazy<B> {
     // The layer over this heap, with no entry.
     pub fn make(below: B) -> Lazy<B>
         requires sound { B.BareHeap.sound below }
-        requires formed { WellFormed Item-as-Ordered.le (B.BareHeap.meaning below) }
+        requires formed { WellFormed B.Item.Ordered.le (B.BareHeap.meaning below) }
         requires bare { Bare (B.BareHeap.meaning below) }
         requires fit { Fit (B.BareHeap.meaning below) }
-        ensures sound { lazy_sound Item-as-Ordered.le B.BareHeap.sound B.BareHeap.meaning result }
-        ensures formed { WellFormed Item-as-Ordered.le (lazy_meaning B.BareHeap.meaning result) }
+        ensures sound { lazy_sound B.Item.Ordered.le B.BareHeap.sound B.BareHeap.meaning result }
+        ensures formed { WellFormed B.Item.Ordered.le (lazy_meaning B.BareHeap.meaning result) }
         ensures meaning { lazy_meaning B.BareHeap.meaning result ≡ fresh_lazily (B.BareHeap.meaning below).fixed }
     {
         let own = Marks::over(below.height());
@@ -64,12 +64,12 @@ impl<B: BareHeap> Lazy<B> {
     // The cancelled entries at the front of the queue leave the heap.
     fn purge(&mut self, queue: u8)
         requires sound { B.BareHeap.sound self.old.below }
-        requires formed { WellFormed Item-as-Ordered.le (B.BareHeap.meaning self.old.below) }
+        requires formed { WellFormed B.Item.Ordered.le (B.BareHeap.meaning self.old.below) }
         requires bare { Bare (B.BareHeap.meaning self.old.below) }
         requires long { length self.old.own.queue_of ≡ 32768 }
         requires near { queue < 32 }
         ensures sound { B.BareHeap.sound self.new.below }
-        ensures effect { Purges Item-as-Ordered.le self.old.own.queue_of (B.BareHeap.meaning self.old.below) queue (B.BareHeap.meaning self.new.below) }
+        ensures effect { Purges B.Item.Ordered.le self.old.own.queue_of (B.BareHeap.meaning self.old.below) queue (B.BareHeap.meaning self.new.below) }
         ensures own { self.new.own ≡ self.old.own }
     {
         'purge: while self.front_cancelled(queue) {

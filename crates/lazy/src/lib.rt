@@ -1,4 +1,6 @@
 // An agenda over any bare heap: a cancelled entry stays below until it would be at a front.
+#![tactic(auto)]
+
 mod layer;
 mod marking;
 

@@ -1,4 +1,6 @@
 // Leftist heaps whose nodes are cells of two lent slices, links and entries, for any element type.
+#![tactic(auto)]
+
 mod idle;
 mod links;
 mod queues;

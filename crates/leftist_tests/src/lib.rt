@@ -1,4 +1,6 @@
 // What a caller of the store of leftist heaps can rely on: a proved function, and tests that are run.
+#![tactic(auto)]
+
 ghost use Rattle.std.specs.Prelude.{◌≡◌, ℕ, length, Option};
 ghost use Rattle.cells.specs.Queues.{Fit, placed};
 

@@ -1,4 +1,6 @@
 // The laws of the sorted_list machine over whole runs.
+#![tactic(auto)]
+
 mod laws;
 
 pub use laws::{

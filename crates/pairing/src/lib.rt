@@ -1,5 +1,7 @@
 // A store of 32 queues, each a pairing heap in the cells of two lent slices. It is made in two calls: `fits` tests the
 // slices and numbers, and `make` takes what passed the test.
+#![tactic(auto)]
+
 mod store;
 
 pub use cells::fits;

@@ -1,4 +1,6 @@
 // Pairing heaps whose nodes are cells of two lent slices, links and entries, for any element type.
+#![tactic(auto)]
+
 mod idle;
 mod links;
 mod passes;

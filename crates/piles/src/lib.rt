@@ -1,4 +1,6 @@
 // Layers over layers, over any agenda or any bare heap: each making asks only what its test and the making below gave.
+#![tactic(auto)]
+
 ghost use Rattle.std.specs.Prelude.{◌≡◌, []};
 ghost use Rattle.stores.specs.Meaning.{WellFormed};
 ghost use Rattle.stores.specs.Promises.{Bare};
@@ -21,10 +23,10 @@ pub fn journal_over_quota<B: Agenda + Drop>(
     used: u16,
 ) -> Result<Journal<Quota<B>>, Unfit>
     requires sound { B.Agenda.sound below }
-    requires formed { WellFormed Item-as-Ordered.le (B.Agenda.meaning below) }
+    requires formed { WellFormed B.Item.Ordered.le (B.Agenda.meaning below) }
     ensures test { MadeIf result (TwoMore (B.Agenda.meaning below) × Places used) }
-    ensures sound { OfMade result (journal_sound Item-as-Ordered.le (quota_sound Item-as-Ordered.le B.Agenda.sound B.Agenda.meaning) (quota_meaning B.Agenda.meaning)) }
-    ensures formed { OfMade result (λ p. WellFormed Item-as-Ordered.le (journal_meaning (quota_meaning B.Agenda.meaning) p)) }
+    ensures sound { OfMade result (journal_sound B.Item.Ordered.le (quota_sound B.Item.Ordered.le B.Agenda.sound B.Agenda.meaning) (quota_meaning B.Agenda.meaning)) }
+    ensures formed { OfMade result (λ p. WellFormed B.Item.Ordered.le (journal_meaning (quota_meaning B.Agenda.meaning) p)) }
     ensures meaning { OfMade result (λ p. journal_meaning (quota_meaning B.Agenda.meaning) p ≡ raised (with_limits limits (B.Agenda.meaning below))) }
     ensures log { OfMade result (λ p. (p.own.used ≡ used) × History p.own []) }
 {
@@ -41,12 +43,12 @@ pub fn journal_over_quota_over_lazy<B: BareHeap + Drop>(
     used: u16,
 ) -> Result<Journal<Quota<Lazy<B>>>, Unfit>
     requires sound { B.BareHeap.sound below }
-    requires formed { WellFormed Item-as-Ordered.le (B.BareHeap.meaning below) }
+    requires formed { WellFormed B.Item.Ordered.le (B.BareHeap.meaning below) }
     requires bare { Bare (B.BareHeap.meaning below) }
     requires unused { (B.BareHeap.meaning below).state.next ≡ 0 }
     ensures test { MadeIf result (Places used) }
-    ensures sound { OfMade result (journal_sound Item-as-Ordered.le (quota_sound Item-as-Ordered.le (lazy_sound Item-as-Ordered.le B.BareHeap.sound B.BareHeap.meaning) (lazy_meaning B.BareHeap.meaning)) (quota_meaning (lazy_meaning B.BareHeap.meaning))) }
-    ensures formed { OfMade result (λ p. WellFormed Item-as-Ordered.le (journal_meaning (quota_meaning (lazy_meaning B.BareHeap.meaning)) p)) }
+    ensures sound { OfMade result (journal_sound B.Item.Ordered.le (quota_sound B.Item.Ordered.le (lazy_sound B.Item.Ordered.le B.BareHeap.sound B.BareHeap.meaning) (lazy_meaning B.BareHeap.meaning)) (quota_meaning (lazy_meaning B.BareHeap.meaning))) }
+    ensures formed { OfMade result (λ p. WellFormed B.Item.Ordered.le (journal_meaning (quota_meaning (lazy_meaning B.BareHeap.meaning)) p)) }
     ensures meaning { OfMade result (λ p. journal_meaning (quota_meaning (lazy_meaning B.BareHeap.meaning)) p ≡ raised (with_limits limits (fresh_lazily (B.BareHeap.meaning below).fixed))) }
     ensures log { OfMade result (λ p. (p.own.used ≡ used) × History p.own []) }
 {
@@ -61,10 +63,10 @@ pub fn quota_over_quota<B: Agenda + Drop>(
     outer: [u16; 32],
 ) -> Result<Quota<Quota<B>>, Unfit>
     requires sound { B.Agenda.sound below }
-    requires formed { WellFormed Item-as-Ordered.le (B.Agenda.meaning below) }
+    requires formed { WellFormed B.Item.Ordered.le (B.Agenda.meaning below) }
     ensures test { MadeIf result (TwoMore (B.Agenda.meaning below)) }
-    ensures sound { OfMade result (quota_sound Item-as-Ordered.le (quota_sound Item-as-Ordered.le B.Agenda.sound B.Agenda.meaning) (quota_meaning B.Agenda.meaning)) }
-    ensures formed { OfMade result (λ p. WellFormed Item-as-Ordered.le (quota_meaning (quota_meaning B.Agenda.meaning) p)) }
+    ensures sound { OfMade result (quota_sound B.Item.Ordered.le (quota_sound B.Item.Ordered.le B.Agenda.sound B.Agenda.meaning) (quota_meaning B.Agenda.meaning)) }
+    ensures formed { OfMade result (λ p. WellFormed B.Item.Ordered.le (quota_meaning (quota_meaning B.Agenda.meaning) p)) }
     ensures meaning { OfMade result (λ p. quota_meaning (quota_meaning B.Agenda.meaning) p ≡ with_limits outer (with_limits inner (B.Agenda.meaning below))) }
 {
     Quota::fits(&below)?;
@@ -80,10 +82,10 @@ pub fn journal_over_journal<B: Agenda + Drop>(
     outer: u16,
 ) -> Result<Journal<Journal<B>>, Unfit>
     requires sound { B.Agenda.sound below }
-    requires formed { WellFormed Item-as-Ordered.le (B.Agenda.meaning below) }
+    requires formed { WellFormed B.Item.Ordered.le (B.Agenda.meaning below) }
     ensures test { MadeIf result (TwoMore (B.Agenda.meaning below) × Places inner × Places outer) }
-    ensures sound { OfMade result (journal_sound Item-as-Ordered.le (journal_sound Item-as-Ordered.le B.Agenda.sound B.Agenda.meaning) (journal_meaning B.Agenda.meaning)) }
-    ensures formed { OfMade result (λ p. WellFormed Item-as-Ordered.le (journal_meaning (journal_meaning B.Agenda.meaning) p)) }
+    ensures sound { OfMade result (journal_sound B.Item.Ordered.le (journal_sound B.Item.Ordered.le B.Agenda.sound B.Agenda.meaning) (journal_meaning B.Agenda.meaning)) }
+    ensures formed { OfMade result (λ p. WellFormed B.Item.Ordered.le (journal_meaning (journal_meaning B.Agenda.meaning) p)) }
     ensures meaning { OfMade result (λ p. journal_meaning (journal_meaning B.Agenda.meaning) p ≡ raised (raised (B.Agenda.meaning below))) }
     ensures log { OfMade result (λ p. (p.own.used ≡ outer) × History p.own []) }
 {

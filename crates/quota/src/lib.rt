@@ -1,4 +1,6 @@
 // A limit for each queue, over any agenda.
+#![tactic(auto)]
+
 ghost use Rattle.std.specs.Prelude.{◌≡◌, ◌+◌, ◌<◌, length, nat_le, slice_index};
 ghost use Rattle.stores.specs.Meaning.{WellFormed};
 ghost use Rattle.stores.specs.Refusals.{Tests};
@@ -68,10 +70,10 @@ impl<B: Agenda> Quota<B> {
     // The layer over this store, with a limit for each queue.
     pub fn make(below: B, limits: [u16; 32]) -> Quota<B>
         requires sound { B.Agenda.sound below }
-        requires formed { WellFormed Item-as-Ordered.le (B.Agenda.meaning below) }
+        requires formed { WellFormed B.Item.Ordered.le (B.Agenda.meaning below) }
         requires fit { Fit (B.Agenda.meaning below) }
-        ensures sound { quota_sound Item-as-Ordered.le B.Agenda.sound B.Agenda.meaning result }
-        ensures formed { WellFormed Item-as-Ordered.le (quota_meaning B.Agenda.meaning result) }
+        ensures sound { quota_sound B.Item.Ordered.le B.Agenda.sound B.Agenda.meaning result }
+        ensures formed { WellFormed B.Item.Ordered.le (quota_meaning B.Agenda.meaning result) }
         ensures meaning { quota_meaning B.Agenda.meaning result ≡ with_limits limits (B.Agenda.meaning below) }
     {
         let own = Limits::over(below.height(), limits);

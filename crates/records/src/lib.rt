@@ -1,4 +1,6 @@
 // Records of a queue's number and an entry, one to a cell of a slice. Each question is one pass over the cells.
+#![tactic(auto)]
+
 mod cells;
 mod passes;
 

@@ -1,4 +1,6 @@
 // Reads lines that a template writes: bytes that stand as they are, with numerals between them.
+#![tactic(auto)]
+
 ghost use Rattle.std.specs.Prelude.{◌≡◌, ℕ, ◌<◌, true, List, length, MatchBool, ◌≢◌, slice_index};
 ghost use Rattle.scanner.specs.Templates.{Filled, clear, Scans};
 

@@ -1,5 +1,7 @@
 // Reads the lines of scripts: the forms that they tell, and the limits that the stations among them set. A script is cut
 // into its lines by `scanner::first_line`.
+#![tactic(auto)]
+
 mod forms;
 mod limits;
 

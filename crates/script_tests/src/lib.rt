@@ -1,4 +1,6 @@
 // Tests of the reader of scripts.
+#![tactic(auto)]
+
 #[cfg(test)]
 mod tests {
     use machine::Form;

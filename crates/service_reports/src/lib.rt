@@ -1,4 +1,6 @@
 // What is printed for a waiting line: the orders as a bench takes them, or what is refused.
+#![tactic(auto)]
+
 ghost use Rattle.std.specs.Prelude.{◌≡◌, ℕ, List, IfOk, string_bytes, MatchResult};
 ghost use Rattle.elements.specs.Elements.{line_le};
 ghost use Rattle.dispatch.specs.Dispatching.{Unused};

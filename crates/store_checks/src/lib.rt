@@ -1,4 +1,6 @@
 // Checks that every store passes, whatever is underneath: calls, each with the answer that it has to get.
+#![tactic(auto)]
+
 mod calls;
 mod scripts;
 

@@ -1,4 +1,6 @@
 // What every store promises: 32 sorted queues of stamped entries, whatever heap, table or layer is underneath.
+#![tactic(auto)]
+
 mod agendas;
 mod examples;
 mod heaps;

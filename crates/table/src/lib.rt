@@ -1,4 +1,6 @@
 // An agenda in one slice: every question is one pass over the cells.
+#![tactic(auto)]
+
 ghost use Rattle.std.specs.Prelude.{◌≡◌, ◌<◌, ◌≤◌, map, length, slice_set};
 ghost use Rattle.stores.specs.Meaning.{WellFormed, fresh_bare};
 ghost use Rattle.stores.specs.Refusals.{Tests};

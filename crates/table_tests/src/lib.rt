@@ -1,4 +1,6 @@
 // Tests of the table.
+#![tactic(auto)]
+
 #[cfg(test)]
 mod tests {
     use elements::LineEntry;

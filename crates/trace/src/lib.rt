@@ -1,4 +1,6 @@
 // The lines of a trace, each as its bytes in a lent buffer.
+#![tactic(auto)]
+
 ghost use Rattle.trace.specs.Lines.{line_text, Writes};
 
 mod lines;

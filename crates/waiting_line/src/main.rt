@@ -1,4 +1,6 @@
 // Reads a waiting line from standard input, an order to a line, and prints the orders as a bench takes them.
+#![tactic(auto)]
+
 ghost use Rattle.std.specs.Prelude.{IfOk, string_bytes};
 ghost use Rattle.service_reports.specs.Reports.{Printed};
 

@@ -1,4 +1,6 @@
 // A waiting line as text, an order to a line.
+#![tactic(auto)]
+
 ghost use Rattle.std.specs.Prelude.{◌≡◌, ℕ, ◌+◌, ◌≤◌, List, length, drop, Result, MatchResult};
 ghost use Rattle.std.specs.List.{prefix_len};
 ghost use Rattle.elements.specs.declared.lines.LineEntry.{LineEntry};

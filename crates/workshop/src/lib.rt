@@ -1,5 +1,7 @@
 // The workshop: what happens at the stations of a network while a run goes on. Two stores, any two agendas, are lent to
 // each call: one with the events, in queue 0, and one with the orders that wait, where line k is queue k.
+#![tactic(auto)]
+
 mod closings;
 mod finishes;
 mod hands;

@@ -5,12 +5,13 @@ ghost use Rattle.std.specs.Prelude.{◌≡◌, ℕ, ◌<◌, true, List, length,
 ghost use Rattle.scanner.specs.Templates.{Filled, clear, Scans};
 
 mod lines;
+mod numbers;
 mod numerals;
 mod tokens;
 
 pub use lines::first_line;
+pub use numbers::{NumberToken, numeral};
 use numerals::number;
-pub use numerals::{Number, numeral};
 pub use tokens::Token;
 
 // The byte of a template that stands for a numeral.

@@ -1,9 +1,6 @@
 // Numerals: digits of base ten, with no needless zero in front.
 ghost use Rattle.std.specs.Prelude.{◌≡◌, ◌+◌, ◌-◌, ◌*◌, ◌<◌, ◌≤◌, min, length, drop, MatchBool, slice_index};
 ghost use Rattle.scanner.specs.Numerals.{Digit, Stop, Begins};
-ghost use Rattle.scanner.specs.Numbers.{Numbered};
-
-use crate::tokens::{Token, front};
 
 // The number with one digit more, or the largest of 32 bits.
 fn extended(n: u32, digit: u8) -> u32
@@ -47,24 +44,4 @@ pub fn number(s: &[u8]) -> Option<(u32, usize)>
         return None;
     }
     Some((n, e))
-}
-
-// A number as it was read: what is told of it, and its digits with what is behind them.
-#[derive(Clone, Copy)]
-pub struct Number<'a> {
-    pub value: u32,
-    pub digits: Token<'a>,
-}
-
-// The numeral at the front of s; or none.
-pub fn numeral(s: &[u8]) -> Option<Number<'_>>
-    ensures { Numbered s.entry result }
-{
-    match number(s) {
-        Some((value, length)) => {
-            let digits = front(s, length);
-            Some(Number { value, digits })
-        }
-        None => None,
-    }
 }

@@ -7,7 +7,7 @@ use Rattle.scanner.proofs.lines.first_line.Goals as goal
 pub returns : goal.returns
 returns c =
     let text = c.args.text in
-    let end = c.line-width-end.ensures.value in
+    let end = c.line_width-end.ensures.value in
     let within = width_within text.now in
     let next : c.min-next.result ≡ next_line text.now = c.min-next.ensures ∙ ap (λ w. min (w + 1) (length text.now)) end in
     record {

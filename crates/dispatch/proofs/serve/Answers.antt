@@ -5,13 +5,13 @@ use Rattle.dispatch.proofs.serve.Goals as goal
 
 pub serving-preserved : goal.serving-preserved
 serving-preserved g c = (
-  c.take-front.ensures.sound,
-  serving_more line_le _ _ _ _ c.serving.invariant.1 c.in-Some.entry c.in-Some.ensures.effect _ c.push-reserved.ensures.items,
+  c.take_front.ensures.sound,
+  serving_more line_le _ _ _ _ c.serving.invariant.1 c.in-Some.entry c.in-Some.ensures.effect _ c.push_reserved.ensures.items,
   omega (arith, one_less line_le _ _ _ _ c.serving.invariant.1 c.in-Some.entry c.in-Some.ensures.effect),
 )
 
 pub returns : goal.returns
 returns g c = record {
-  sound = c.take-front.ensures.sound;
-  effect = served line_le _ _ _ _ c.serving.invariant.1 c.in-default.ensures.effect;
+  sound = c.take_front.ensures.sound;
+  effect = served line_le _ _ _ _ c.serving.invariant.1 c.in_default.ensures.effect;
 }

@@ -7,7 +7,7 @@ pub returns : goal.returns
 returns c =
     let text = c.args.text.now in
     let rest = take_rest text c.args.at in
-    let n = c.line-length-length.ensures.value in
+    let n = c.line_length-length.ensures.value in
     record {
       value = line_cut text _ c.args.at _ _ rest n (omega arith);
       bound = line_within text _ c.args.at _ _ rest n (omega arith) c.requires;

@@ -9,8 +9,8 @@ least-other-requires g t c κs within =
     let w = look le (strict le g.met.T.Ordered.laws) _ c.in-Some.is c.requires.1 in
     (omega (arith, c.decreases, w.falls), (within, (_, w.forest)))
 
-pub offset-bounds-entries-other : goal.offset-bounds-entries-other
-offset-bounds-entries-other g t c =
+pub offset_bounds-entries-other : goal.offset_bounds-entries-other
+offset_bounds-entries-other g t c =
     let le = g.T.Ordered.le in
     let w = look le (strict le g.met.T.Ordered.laws) _ c.in-Some.is c.requires.1 in
     omega (arith, w.inside _ _ (c.least-other.ensures _ w.forest).1)

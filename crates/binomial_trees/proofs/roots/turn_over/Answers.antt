@@ -11,17 +11,17 @@ children-init g c es k t f = let le = g.T.Ordered.le in (k, part_start (cells_of
 pub bounds-links-i : goal.bounds-links-i
 bounds-links-i g c = let le = g.T.Ordered.le in turn_within le (strict le g.met.T.Ordered.laws) _ (c.children.invariant _ _ _ c.requires.3).1 c.in-Some.is
 
-pub set-next-requires : goal.set-next-requires
-set-next-requires g c = let le = g.T.Ordered.le in turn_within le (strict le g.met.T.Ordered.laws) _ (c.children.invariant _ _ _ c.requires.3).1 c.in-Some.is
+pub set_next-requires : goal.set_next-requires
+set_next-requires g c = let le = g.T.Ordered.le in turn_within le (strict le g.met.T.Ordered.laws) _ (c.children.invariant _ _ _ c.requires.3).1 c.in-Some.is
 
 pub children-smaller : goal.children-smaller
-children-smaller g c = let le = g.T.Ordered.le in (turned le (strict le g.met.T.Ordered.laws) _ (c.children.invariant _ _ _ c.requires.3).1 c.in-Some.is _ c.set-next.ensures).falls
+children-smaller g c = let le = g.T.Ordered.le in (turned le (strict le g.met.T.Ordered.laws) _ (c.children.invariant _ _ _ c.requires.3).1 c.in-Some.is _ c.set_next.ensures).falls
 
 pub children-preserved : goal.children-preserved
 children-preserved g c es k t f =
     let le = g.T.Ordered.le in
-    let w = turned le (strict le g.met.T.Ordered.laws) _ (c.children.invariant es k t f).1 c.in-Some.is _ c.set-next.ensures in
+    let w = turned le (strict le g.met.T.Ordered.laws) _ (c.children.invariant es k t f).1 c.in-Some.is _ c.set_next.ensures in
     (w.degree, w.parted)
 
 pub returns : goal.returns
-returns g c es k t f = let le = g.T.Ordered.le in turned_all le (strict le g.met.T.Ordered.laws) _ (c.children.invariant es k t f).1 c.in-default.is
+returns g c es k t f = let le = g.T.Ordered.le in turned_all le (strict le g.met.T.Ordered.laws) _ (c.children.invariant es k t f).1 c.in_default.is

@@ -7,8 +7,8 @@ use Rattle.binomial_trees.proofs.Lawfulness.{laid}
 use Rattle.binomial_trees.proofs.Adding.{digit}
 use Rattle.binomial_trees.proofs.trees.+add.Goals as goal
 
-pub slice-copy-out·right : goal.slice-copy-out·right
-slice-copy-out·right g t c = let le = g.T.Ordered.le in (digit le (strict le g.met.T.Ordered.laws) _ _ c.in-Some.is c.in-Some-b.is c.requires.3).within.1
+pub slice_copy_out-right : goal.slice_copy_out-right
+slice_copy_out-right g t c = let le = g.T.Ordered.le in (digit le (strict le g.met.T.Ordered.laws) _ _ c.in-Some.is c.in-Some-b.is c.requires.3).within.1
 
 pub add-rest-requires : goal.add-rest-requires
 add-rest-requires g t c κs within =
@@ -18,8 +18,8 @@ add-rest-requires g t c κs within =
     let r = w.low c.if-left-right.true in
     (omega (arith, c.decreases, w.fewer, extent_is (cells_of le) (laid le) (omega (arith, p.few)) p.one, extent_is (cells_of le) (laid le) (omega (arith, p.few)) p.two, extent_is (cells_of le) (laid le) (omega (arith, r.few)) r.one, extent_is (cells_of le) (laid le) (omega (arith, r.few)) r.two), (within, (_, _, _, r)))
 
-pub set-next-requires : goal.set-next-requires
-set-next-requires g t c = let le = g.T.Ordered.le in omega (arith, c.add-rest.auto.links, (digit le (strict le g.met.T.Ordered.laws) _ _ c.in-Some.is c.in-Some-b.is c.requires.3).within)
+pub set_next-requires : goal.set_next-requires
+set_next-requires g t c = let le = g.T.Ordered.le in omega (arith, c.add-rest.auto.links, (digit le (strict le g.met.T.Ordered.laws) _ _ c.in-Some.is c.in-Some-b.is c.requires.3).within)
 
 pub add-rest-requires-then-right-left : goal.add-rest-requires-then-right-left
 add-rest-requires-then-right-left g t c κs within =
@@ -29,8 +29,8 @@ add-rest-requires-then-right-left g t c κs within =
     let r = w.low c.if-right-left.true in
     (omega (arith, c.decreases, w.fewer, extent_is (cells_of le) (laid le) (omega (arith, p.few)) p.one, extent_is (cells_of le) (laid le) (omega (arith, p.few)) p.two, extent_is (cells_of le) (laid le) (omega (arith, r.few)) r.one, extent_is (cells_of le) (laid le) (omega (arith, r.few)) r.two), (within, (_, _, _, r)))
 
-pub set-next-requires-then-right-left : goal.set-next-requires-then-right-left
-set-next-requires-then-right-left g t c = let le = g.T.Ordered.le in omega (arith, c.add-rest-then-right-left.auto.links, (digit le (strict le g.met.T.Ordered.laws) _ _ c.in-Some.is c.in-Some-b.is c.requires.3).within)
+pub set_next-requires-then-right-left : goal.set_next-requires-then-right-left
+set_next-requires-then-right-left g t c = let le = g.T.Ordered.le in omega (arith, c.add-rest-then-right-left.auto.links, (digit le (strict le g.met.T.Ordered.laws) _ _ c.in-Some.is c.in-Some-b.is c.requires.3).within)
 
 pub join-sum-requires : goal.join-sum-requires
 join-sum-requires g t c = let le = g.T.Ordered.le in (_, _, _, ((digit le (strict le g.met.T.Ordered.laws) _ _ c.in-Some.is c.in-Some-b.is c.requires.3).even c.if-right-left.false c.if-left-right.false).twins)
@@ -65,14 +65,14 @@ pub returns-then-left-right : goal.returns-then-left-right
 returns-then-left-right g t c k s u p =
     let le = g.T.Ordered.le in
     let w = digit le (strict le g.met.T.Ordered.laws) s u c.in-Some.is c.in-Some-b.is p in
-    w.low_ends c.if-left-right.true _ _ (omega (arith, c.add-rest.auto.links)) (c.add-rest.ensures _ _ _ (w.low c.if-left-right.true)) c.set-next.ensures
+    w.low_ends c.if-left-right.true _ _ (omega (arith, c.add-rest.auto.links)) (c.add-rest.ensures _ _ _ (w.low c.if-left-right.true)) c.set_next.ensures
 
 pub returns-then-right-left : goal.returns-then-right-left
 returns-then-right-left g t c k s u p =
     let le = g.T.Ordered.le in
     let law = strict le g.met.T.Ordered.laws in
     let w = digit le law u s c.in-Some-b.is c.in-Some.is (apart_swapped (cells_of le) p) in
-    added_unswapped (cells_of le) (laid le) law p (w.low_ends c.if-right-left.true _ _ (omega (arith, c.add-rest-then-right-left.auto.links)) (c.add-rest-then-right-left.ensures _ _ _ (w.low c.if-right-left.true)) c.set-next-then-right-left.ensures)
+    added_unswapped (cells_of le) (laid le) law p (w.low_ends c.if-right-left.true _ _ (omega (arith, c.add-rest-then-right-left.auto.links)) (c.add-rest-then-right-left.ensures _ _ _ (w.low c.if-right-left.true)) c.set_next-then-right-left.ensures)
 
 pub returns-else-right-left : goal.returns-else-right-left
 returns-else-right-left g t c k s u p =

@@ -20,7 +20,7 @@ pub returns-in-None : goal.returns-in-None
 returns-in-None g t c k s u p = let le = g.T.Ordered.le in carry_none le (strict le g.met.T.Ordered.laws) s u c.in-None.is p
 
 pub returns-then-links-i : goal.returns-then-links-i
-returns-then-links-i g t c k s u p = let le = g.T.Ordered.le in (carry_turn le (strict le g.met.T.Ordered.laws) s u c.in-Some.is p).front c.if-links-i.true c.set-next.ensures
+returns-then-links-i g t c k s u p = let le = g.T.Ordered.le in (carry_turn le (strict le g.met.T.Ordered.laws) s u c.in-Some.is p).front c.if-links-i.true c.set_next.ensures
 
 pub returns-else-links-i : goal.returns-else-links-i
 returns-else-links-i g t c k s u p =

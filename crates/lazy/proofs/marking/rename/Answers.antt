@@ -10,7 +10,7 @@ loop-mark-preserved c =
     let i = c.loop-mark.mark-index in
     let v = get_or ys i 0 in
     let lt : i < length ys = omega arith in
-    ap (set ys i) c.renamed-mark.ensures
+    ap (set ys i) c.renamed_mark.ensures
     ∙ map_over_more (λ w. cond (eqb w c.args.old) c.args.new w) c.args.marks.now ys i v c.loop-mark-test.true c.loop-mark.invariant (get_or_default ys i 0 v lt)
 
 pub returns : goal.returns

@@ -38,11 +38,11 @@ meld-melded-requires g c = (take_root g.T.Ordered.le g.met.T.Ordered.laws c.requ
 pub release-requires : goal.release-requires
 release-requires g c = omega (arith, c.meld-melded.auto.links, (take_root g.T.Ordered.le g.met.T.Ordered.laws c.requires c.args.queue c.if-queue-ge-QUEUES.false c.in-Some.i c.in-Some.is).links)
 
-pub overflow-sub-count : goal.overflow-sub-count
-overflow-sub-count g c = omega (arith, (take_root g.T.Ordered.le g.met.T.Ordered.laws c.requires c.args.queue c.if-queue-ge-QUEUES.false c.in-Some.i c.in-Some.is).counted)
+pub overflow_sub-count : goal.overflow_sub-count
+overflow_sub-count g c = omega (arith, (take_root g.T.Ordered.le g.met.T.Ordered.laws c.requires c.args.queue c.if-queue-ge-QUEUES.false c.in-Some.i c.in-Some.is).counted)
 
-pub offset-bounds-entries-i : goal.offset-bounds-entries-i
-offset-bounds-entries-i g c = omega (arith, (take_root g.T.Ordered.le g.met.T.Ordered.laws c.requires c.args.queue c.if-queue-ge-QUEUES.false c.in-Some.i c.in-Some.is).entries)
+pub offset_bounds-entries-i : goal.offset_bounds-entries-i
+offset_bounds-entries-i g c = omega (arith, (take_root g.T.Ordered.le g.met.T.Ordered.laws c.requires c.args.queue c.if-queue-ge-QUEUES.false c.in-Some.i c.in-Some.is).entries)
 
 pub bounds-entries-i : goal.bounds-entries-i
 bounds-entries-i g c = (take_root g.T.Ordered.le g.met.T.Ordered.laws c.requires c.args.queue c.if-queue-ge-QUEUES.false c.in-Some.i c.in-Some.is).entries

@@ -3,16 +3,16 @@ use Rattle.leftist_core.specs.Leftist.{rank_at}
 use Rattle.leftist_core.proofs.Melding.{first_turn, second_turn, second_precedes, turned, with_none, into_none}
 use Rattle.leftist_core.proofs.trees.+meld.Goals as goal
 
-pub offset-bounds-entries-i : goal.offset-bounds-entries-i
-offset-bounds-entries-i g t c =
+pub offset_bounds-entries-i : goal.offset_bounds-entries-i
+offset_bounds-entries-i g t c =
     let w = first_turn g.T.Ordered.le g.met.T.Ordered.laws c.in-Some.is c.in-Some-b.is c.requires.2 in
     omega (arith, w.entries)
 
 pub bounds-entries-i : goal.bounds-entries-i
 bounds-entries-i g t c = (first_turn g.T.Ordered.le g.met.T.Ordered.laws c.in-Some.is c.in-Some-b.is c.requires.2).entries
 
-pub offset-bounds-entries-j : goal.offset-bounds-entries-j
-offset-bounds-entries-j g t c =
+pub offset_bounds-entries-j : goal.offset_bounds-entries-j
+offset_bounds-entries-j g t c =
     let w = second_turn g.T.Ordered.le g.met.T.Ordered.laws c.in-Some.is c.in-Some-b.is c.requires.2 in
     omega (arith, w.entries)
 

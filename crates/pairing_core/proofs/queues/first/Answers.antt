@@ -6,8 +6,8 @@ use Rattle.pairing_core.proofs.Lawfulness.{lawful}
 use Rattle.pairing_core.proofs.Taking.{take_root}
 use Rattle.pairing_core.proofs.queues.first.Goals as goal
 
-pub offset-bounds-entries-i : goal.offset-bounds-entries-i
-offset-bounds-entries-i g c = omega (arith, (take_root g.T.Ordered.le g.met.T.Ordered.laws c.requires.1 c.args.queue c.if-queue-ge-QUEUES.false c.in-Some.i c.in-Some.is).entries)
+pub offset_bounds-entries-i : goal.offset_bounds-entries-i
+offset_bounds-entries-i g c = omega (arith, (take_root g.T.Ordered.le g.met.T.Ordered.laws c.requires.1 c.args.queue c.if-queue-ge-QUEUES.false c.in-Some.i c.in-Some.is).entries)
 
 pub bounds-entries-i : goal.bounds-entries-i
 bounds-entries-i g c = (take_root g.T.Ordered.le g.met.T.Ordered.laws c.requires.1 c.args.queue c.if-queue-ge-QUEUES.false c.in-Some.i c.in-Some.is).entries

@@ -30,22 +30,22 @@ returns-in-None g c =
 pub bounds-links-i : goal.bounds-links-i
 bounds-links-i g c = (take_root g.T.Ordered.le g.met.T.Ordered.laws c.requires c.args.queue c.if-queue-ge-QUEUES.false c.in-Some.i c.in-Some.is).links
 
-pub pair-up-paired-requires : goal.pair-up-paired-requires
-pair-up-paired-requires g c = (_, (take_root g.T.Ordered.le g.met.T.Ordered.laws c.requires c.args.queue c.if-queue-ge-QUEUES.false c.in-Some.i c.in-Some.is).forest)
+pub pair_up-paired-requires : goal.pair_up-paired-requires
+pair_up-paired-requires g c = (_, (take_root g.T.Ordered.le g.met.T.Ordered.laws c.requires c.args.queue c.if-queue-ge-QUEUES.false c.in-Some.i c.in-Some.is).forest)
 
 pub gather-whole-requires : goal.gather-whole-requires
 gather-whole-requires g c =
     let p = take_root g.T.Ordered.le g.met.T.Ordered.laws c.requires c.args.queue c.if-queue-ge-QUEUES.false c.in-Some.i c.in-Some.is in
-    (_, built_forest (cells_of g.T.Ordered.le) p.forest (c.pair-up-paired.ensures _ p.forest))
+    (_, built_forest (cells_of g.T.Ordered.le) p.forest (c.pair_up-paired.ensures _ p.forest))
 
 pub release-requires : goal.release-requires
-release-requires g c = omega (arith, c.pair-up-paired.auto.links, c.gather-whole.auto.links, (take_root g.T.Ordered.le g.met.T.Ordered.laws c.requires c.args.queue c.if-queue-ge-QUEUES.false c.in-Some.i c.in-Some.is).links)
+release-requires g c = omega (arith, c.pair_up-paired.auto.links, c.gather-whole.auto.links, (take_root g.T.Ordered.le g.met.T.Ordered.laws c.requires c.args.queue c.if-queue-ge-QUEUES.false c.in-Some.i c.in-Some.is).links)
 
-pub overflow-sub-count : goal.overflow-sub-count
-overflow-sub-count g c = omega (arith, (take_root g.T.Ordered.le g.met.T.Ordered.laws c.requires c.args.queue c.if-queue-ge-QUEUES.false c.in-Some.i c.in-Some.is).counted)
+pub overflow_sub-count : goal.overflow_sub-count
+overflow_sub-count g c = omega (arith, (take_root g.T.Ordered.le g.met.T.Ordered.laws c.requires c.args.queue c.if-queue-ge-QUEUES.false c.in-Some.i c.in-Some.is).counted)
 
-pub offset-bounds-entries-i : goal.offset-bounds-entries-i
-offset-bounds-entries-i g c = omega (arith, (take_root g.T.Ordered.le g.met.T.Ordered.laws c.requires c.args.queue c.if-queue-ge-QUEUES.false c.in-Some.i c.in-Some.is).entries)
+pub offset_bounds-entries-i : goal.offset_bounds-entries-i
+offset_bounds-entries-i g c = omega (arith, (take_root g.T.Ordered.le g.met.T.Ordered.laws c.requires c.args.queue c.if-queue-ge-QUEUES.false c.in-Some.i c.in-Some.is).entries)
 
 pub bounds-entries-i : goal.bounds-entries-i
 bounds-entries-i g c = (take_root g.T.Ordered.le g.met.T.Ordered.laws c.requires c.args.queue c.if-queue-ge-QUEUES.false c.in-Some.i c.in-Some.is).entries
@@ -54,7 +54,7 @@ pub returns-in-Some : goal.returns-in-Some
 returns-in-Some g c =
     let le = g.T.Ordered.le in
     let p = take_root g.T.Ordered.le g.met.T.Ordered.laws c.requires c.args.queue c.if-queue-ge-QUEUES.false c.in-Some.i c.in-Some.is in
-    let m = c.pair-up-paired.ensures _ p.forest in
+    let m = c.pair_up-paired.ensures _ p.forest in
     let n = c.gather-whole.ensures _ (built_forest (cells_of le) p.forest m) in
-    let d = p.done _ _ (omega (arith, c.pair-up-paired.auto.links, c.gather-whole.auto.links)) (built_then (cells_of le) m n) _ c.index-entries-i.is _ _ _ c.release.ensures.heads c.release.ensures.links c.settle.ensures in
+    let d = p.done _ _ (omega (arith, c.pair_up-paired.auto.links, c.gather-whole.auto.links)) (built_then (cells_of le) m n) _ c.index-entries-i.is _ _ _ c.release.ensures.heads c.release.ensures.links c.settle.ensures in
     record { sound = d.sound; effect = d.effect; heads = tt; links = tt }

@@ -2,7 +2,7 @@ use Rattle.trace.proofs.Spelling.{refused_written}
 use Rattle.trace.proofs.lines.refused_line.Goals as goal
 
 pub returns-in-Some : goal.returns-in-Some
-returns-in-Some c = refused_written _ _ _ _ _ _ _ _ c.number-number.ensures c.in-Some.ensures c.fill-template.ensures.fits c.fill-template.ensures.put
+returns-in-Some c = refused_written _ _ _ _ _ _ _ _ c.number-number.ensures c.in-Some.ensures c.fill_template.ensures.fits c.fill_template.ensures.put
 
 pub returns-in-None : goal.returns-in-None
-returns-in-None c = refused_written _ _ _ _ _ _ _ _ c.number-number.ensures c.in-None.ensures c.fill-template-in-None.ensures.fits c.fill-template-in-None.ensures.put
+returns-in-None c = refused_written _ _ _ _ _ _ _ _ c.number-number.ensures c.in-None.ensures c.fill_template-in-None.ensures.fits c.fill_template-in-None.ensures.put

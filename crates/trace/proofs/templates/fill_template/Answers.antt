@@ -14,10 +14,10 @@ loop-byte-preserved c =
     elim c.if-byte-eq-GAP.branch [
       | then-byte-eq-GAP+else-filled-numbers w ↦
           same _ _ _ _ _ _ _ _ _ _ w.filled-is w.out-is w.at-is
-          (gap_filled _ _ _ _ _ _ _ c.loop-byte.invariant c.loop-byte-test.true _ _ _ w.if-byte-eq-GAP.true w.if-filled-numbers.false refl (omega arith) w.put-number-at.ensures)
+          (gap_filled _ _ _ _ _ _ _ c.loop-byte.invariant c.loop-byte-test.true _ _ _ w.if-byte-eq-GAP.true w.if-filled-numbers.false refl (omega arith) w.put_number-at.ensures)
       | else-byte-eq-GAP w ↦
           same _ _ _ _ _ _ _ _ _ _ w.filled-is w.out-is w.at-is
-          (byte_filled _ _ _ _ _ _ _ c.loop-byte.invariant c.loop-byte-test.true _ _ w.if-byte-eq-GAP.false w.put-byte-at.ensures)
+          (byte_filled _ _ _ _ _ _ _ c.loop-byte.invariant c.loop-byte-test.true _ _ w.if-byte-eq-GAP.false w.put_byte-at.ensures)
     ]
 
 pub returns : goal.returns

@@ -8,11 +8,11 @@ use Rattle.script.proofs.limits.script_limits.Goals.{in-Some, in-None}
 pub lines-preserved : goal.lines-preserved
 lines-preserved c =
     let rest = c.lines.rest.now in
-    let behind = c.first-line-line.result.rest.now in
+    let behind = c.first_line-line.result.rest.now in
     let some : 0 < length rest = omega (arith, eqb-false (length rest) 0 (sym c.lines-test.ensures)) in
-    let split = script_split rest _ behind (c.first-line-line.ensures.lines some) in
-    elim c.match-read-form.branch [
-      | in-Some w ↦ limits_more _ rest _ behind _ _ (Some w.in-Some.form) c.lines.invariant split w.in-Some.ensures.value (w.limits-is ∙ w.note-limit.ensures)
+    let split = script_split rest _ behind (c.first_line-line.ensures.lines some) in
+    elim c.match-read_form.branch [
+      | in-Some w ↦ limits_more _ rest _ behind _ _ (Some w.in-Some.form) c.lines.invariant split w.in-Some.ensures.value (w.limits-is ∙ w.note_limit.ensures)
       | in-None w ↦ limits_more _ rest _ behind _ _ None c.lines.invariant split w.in-None.ensures.value w.limits-is
     ]
 

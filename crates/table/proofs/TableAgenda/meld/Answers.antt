@@ -14,5 +14,5 @@ returns-then-into-from g c = record { sound = c.requires; effect = melds_refused
 
 pub returns : goal.returns
 returns g c =
-    let done = meld_done c.requires g.T.Ordered.le g.met.T.Ordered.laws c.args.into c.args.from c.if-into-ge-QUEUES.false c.if-from-ge-QUEUES.false c.if-into-from.false c.counted-count.result c.counted-count.ensures c.move-queue.ensures.cells c.move-queue.ensures.next c.move-queue.ensures.stamps in
+    let done = meld_done c.requires g.T.Ordered.le g.met.T.Ordered.laws c.args.into c.args.from c.if-into-ge-QUEUES.false c.if-from-ge-QUEUES.false c.if-into-from.false c.counted-count.result c.counted-count.ensures c.move_queue.ensures.cells c.move_queue.ensures.next c.move_queue.ensures.stamps in
     record { sound = done.sound; effect = done.effect; refused = tt }

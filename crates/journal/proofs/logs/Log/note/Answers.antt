@@ -5,7 +5,7 @@ pub returns : goal.returns
 returns c =
     let l = c.args.self.now in
     let next = c.following-self.ensures in
-    let more = c.one-more-self.ensures in
+    let more = c.one_more-self.ensures in
     record {
       kept = note_kept l c.requires c.args.change _ _ next more;
       writes = note_writes l c.requires c.args.change _ _ next more;

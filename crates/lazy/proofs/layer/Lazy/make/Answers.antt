@@ -13,6 +13,6 @@ returns g c =
     let over = made_over m p.formed p.bare p.fit _ _ _ o.marks o.counts h p.sound in
     record {
       sound = over;
-      formed = formed_lazily _ _ _ m over (strict _ g.met.Item.Ordered.laws);
+      formed = formed_lazily _ _ _ m over (strict _ g.met.B.Item.Ordered.laws);
       meaning = made_meaning m p.formed p.bare p.fit _ _ _ o.marks o.counts h;
     }

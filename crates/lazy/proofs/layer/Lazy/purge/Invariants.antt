@@ -6,7 +6,7 @@ use Rattle.lazy.proofs.layer.Lazy.purge.Given as goal
 abbrev pub invariant-purge : goal.invariant-purge
 invariant-purge g l =
     (g.B.BareHeap.sound l.self.below)
-    × Purging g.Item.Ordered.le l.initial.self.own.queue_of (g.B.BareHeap.meaning l.initial.self.below) l.queue (g.B.BareHeap.meaning l.self.below)
+    × Purging g.B.Item.Ordered.le l.initial.self.own.queue_of (g.B.BareHeap.meaning l.initial.self.below) l.queue (g.B.BareHeap.meaning l.self.below)
     × (l.self.own ≡ l.initial.self.own)
 
 abbrev pub decreases-purge : goal.decreases-purge

@@ -1,5 +1,5 @@
 -- Both slices are taken out of a store, lent, and put back.
-use Rattle.std.proofs.Common.{◌≡◌, ℕ, List, Ok, Err, Option, Result, sym, subst, Bor}
+use Rattle.std.proofs.Common.{◌≡◌, ℕ, List, Ok, Err, Option, Result, sym, subst, MutBor}
 use Rattle.elements.specs.declared.entries.Entry.{Entry}
 use Rattle.stores.specs.declared.refusals.Refusal.{Refusal}
 use Rattle.stores.specs.Meaning.{Meaning}
@@ -17,7 +17,7 @@ none_placed (Ok n) o es es' x e = tt
 none_placed (Err f) o es es' x e = e
 
 -- x and y are the slices as they were taken out of the store, x' and y' as they were in it
-module _ {T K : Type 0} (F : Form T K) (h : Heads) {x x' : Bor (List K)} {y y' : Bor (List (Entry T))} (p : x ≡ x') (q : y ≡ y') where
+module _ {T K : Type 0} (F : Form T K) (h : Heads) {x x' : MutBor (List K)} {y y' : MutBor (List (Entry T))} (p : x ≡ x') (q : y ≡ y') where
   pub sound_out : Sound F h x'.now y'.now → Sound F h x.now y.now
   sound_out s = carried (λ a b. Sound F h a.now b.now) (sym p) (sym q) s
 

@@ -1,5 +1,5 @@
 -- Both slices are taken out of the store, lent to the core, and put back.
-use Rattle.std.proofs.Common.{◌≡◌, ℕ, Bool, List, Ok, Err, Option, Result, sym, ◌∙◌, subst, Bor}
+use Rattle.std.proofs.Common.{◌≡◌, ℕ, Bool, List, Ok, Err, Option, Result, sym, ◌∙◌, subst, MutBor}
 use Rattle.elements.specs.declared.entries.Entry.{Entry}
 use Rattle.stores.specs.declared.refusals.Refusal.{Refusal}
 use Rattle.stores.specs.Meaning.{Meaning}
@@ -19,7 +19,7 @@ none_placed (Ok n) o es es' x e = tt
 none_placed (Err f) o es es' x e = e
 
 -- x and y are the slices as they were taken out of the store, x' and y' as they were in it
-module _ {T : Type 0} (le : T → T → Bool) (h : Heads) {x x' : Bor (List Link)} {y y' : Bor (List (Entry T))} (p : x ≡ x') (q : y ≡ y') where
+module _ {T : Type 0} (le : T → T → Bool) (h : Heads) {x x' : MutBor (List Link)} {y y' : MutBor (List (Entry T))} (p : x ≡ x') (q : y ≡ y') where
   pub sound_out : Sound (leftist le) h x'.now y'.now → Sound (leftist le) h x.now y.now
   sound_out s = carried (λ a b. Sound (leftist le) h a.now b.now) (sym p) (sym q) s
 
@@ -29,4 +29,4 @@ module _ {T : Type 0} (le : T → T → Bool) (h : Heads) {x x' : Bor (List Link
   -- what the core left unchanged, the store is once the slices are back
   pub unchanged_back : {A : Type 0} (r : Result A Refusal) (h' : Heads) (ls : List Link) (es : List (Entry T)) → Unchanged r h h' → Unchanged r x.now ls → Unchanged r y.now es → Unchanged {S = Leftist T} r (record { links = x'; entries = y'; heads = h }) (record { links = record { ref_ptr = x.ref_ptr; ghost_name = x.ghost_name; now = ls }; entries = record { ref_ptr = y.ref_ptr; ghost_name = y.ghost_name; now = es }; heads = h' })
   unchanged_back (Ok a) h' ls es e f g = tt
-  unchanged_back (Err a) h' ls es e f g = (λ j. record { links = record { ref_ptr = x.ptr; ghost_name = x.name; now = f j }; entries = record { ref_ptr = y.ptr; ghost_name = y.name; now = g j }; heads = e j }) ∙ (λ j. record { links = p j; entries = q j; heads = h })
+  unchanged_back (Err a) h' ls es e f g = (λ j. record { links = record { ref_ptr = x.ref_ptr; ghost_name = x.ghost_name; now = f j }; entries = record { ref_ptr = y.ref_ptr; ghost_name = y.ghost_name; now = g j }; heads = e j }) ∙ (λ j. record { links = p j; entries = q j; heads = h })

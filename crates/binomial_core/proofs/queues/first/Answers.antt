@@ -9,8 +9,8 @@ use Rattle.binomial_core.proofs.queues.first.Goals as goal
 pub least-i-requires : goal.least-i-requires
 least-i-requires g c = (_, any_roots g.T.Ordered.le g.met.T.Ordered.laws c.requires c.args.queue c.if-queue-ge-QUEUES.false c.in-Some.first c.in-Some.is)
 
-pub offset-bounds-entries-i : goal.offset-bounds-entries-i
-offset-bounds-entries-i g c = omega (arith, least_inside g.T.Ordered.le g.met.T.Ordered.laws c.requires c.args.queue c.if-queue-ge-QUEUES.false c.in-Some.first c.in-Some.is _ _ (c.least-i.ensures _ (any_roots g.T.Ordered.le g.met.T.Ordered.laws c.requires c.args.queue c.if-queue-ge-QUEUES.false c.in-Some.first c.in-Some.is)).1)
+pub offset_bounds-entries-i : goal.offset_bounds-entries-i
+offset_bounds-entries-i g c = omega (arith, least_inside g.T.Ordered.le g.met.T.Ordered.laws c.requires c.args.queue c.if-queue-ge-QUEUES.false c.in-Some.first c.in-Some.is _ _ (c.least-i.ensures _ (any_roots g.T.Ordered.le g.met.T.Ordered.laws c.requires c.args.queue c.if-queue-ge-QUEUES.false c.in-Some.first c.in-Some.is)).1)
 
 pub bounds-entries-i : goal.bounds-entries-i
 bounds-entries-i g c = least_inside g.T.Ordered.le g.met.T.Ordered.laws c.requires c.args.queue c.if-queue-ge-QUEUES.false c.in-Some.first c.in-Some.is _ _ (c.least-i.ensures _ (any_roots g.T.Ordered.le g.met.T.Ordered.laws c.requires c.args.queue c.if-queue-ge-QUEUES.false c.in-Some.first c.in-Some.is)).1

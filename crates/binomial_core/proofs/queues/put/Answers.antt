@@ -51,8 +51,8 @@ meld-melded-requires g c =
     let le = g.T.Ordered.le in
     (putting (binomial le) (lawful le (strict le g.met.T.Ordered.laws)) c.requires c.args.queue c.args.element c.if-queue-ge-QUEUES.false c.in-Some.cell c.in-Some.is c.if-stamp-heads.false _ _ _ c.occupy.ensures.heads c.occupy.ensures.links c.occupy.ensures.entries).meldable
 
-pub overflow-add-count : goal.overflow-add-count
-overflow-add-count g c =
+pub overflow_add-count : goal.overflow_add-count
+overflow_add-count g c =
     let le = g.T.Ordered.le in
     omega (arith, few (binomial le) (lawful le (strict le g.met.T.Ordered.laws)) c.requires c.args.queue c.if-queue-ge-QUEUES.false)
 

@@ -15,36 +15,36 @@ returns-in-None g c = record { sound = c.requires; effect = take_none (binomial 
 pub least-i-requires : goal.least-i-requires
 least-i-requires g c = (_, any_roots g.T.Ordered.le g.met.T.Ordered.laws c.requires c.args.queue c.if-queue-ge-QUEUES.false c.in-Some.first c.in-Some.is)
 
-pub take-out-others-requires : goal.take-out-others-requires
-take-out-others-requires g c = (_, _, _, _, roots g.T.Ordered.le g.met.T.Ordered.laws c.requires c.args.queue c.if-queue-ge-QUEUES.false c.in-Some.first c.in-Some.is, (c.least-i.ensures _ (any_roots g.T.Ordered.le g.met.T.Ordered.laws c.requires c.args.queue c.if-queue-ge-QUEUES.false c.in-Some.first c.in-Some.is)).1)
+pub take_out-others-requires : goal.take_out-others-requires
+take_out-others-requires g c = (_, _, _, _, roots g.T.Ordered.le g.met.T.Ordered.laws c.requires c.args.queue c.if-queue-ge-QUEUES.false c.in-Some.first c.in-Some.is, (c.least-i.ensures _ (any_roots g.T.Ordered.le g.met.T.Ordered.laws c.requires c.args.queue c.if-queue-ge-QUEUES.false c.in-Some.first c.in-Some.is)).1)
 
 pub bounds-links-i : goal.bounds-links-i
-bounds-links-i g c = (least_out g.T.Ordered.le g.met.T.Ordered.laws c.requires c.args.queue c.if-queue-ge-QUEUES.false c.in-Some.first c.in-Some.is _ _ (c.least-i.ensures _ (any_roots g.T.Ordered.le g.met.T.Ordered.laws c.requires c.args.queue c.if-queue-ge-QUEUES.false c.in-Some.first c.in-Some.is)).1 _ _ (omega (arith, c.take-out-others.auto.links)) (c.take-out-others.ensures _ _ _ _ (roots g.T.Ordered.le g.met.T.Ordered.laws c.requires c.args.queue c.if-queue-ge-QUEUES.false c.in-Some.first c.in-Some.is) (c.least-i.ensures _ (any_roots g.T.Ordered.le g.met.T.Ordered.laws c.requires c.args.queue c.if-queue-ge-QUEUES.false c.in-Some.first c.in-Some.is)).1)).within
+bounds-links-i g c = (least_out g.T.Ordered.le g.met.T.Ordered.laws c.requires c.args.queue c.if-queue-ge-QUEUES.false c.in-Some.first c.in-Some.is _ _ (c.least-i.ensures _ (any_roots g.T.Ordered.le g.met.T.Ordered.laws c.requires c.args.queue c.if-queue-ge-QUEUES.false c.in-Some.first c.in-Some.is)).1 _ _ (omega (arith, c.take_out-others.auto.links)) (c.take_out-others.ensures _ _ _ _ (roots g.T.Ordered.le g.met.T.Ordered.laws c.requires c.args.queue c.if-queue-ge-QUEUES.false c.in-Some.first c.in-Some.is) (c.least-i.ensures _ (any_roots g.T.Ordered.le g.met.T.Ordered.laws c.requires c.args.queue c.if-queue-ge-QUEUES.false c.in-Some.first c.in-Some.is)).1)).within
 
-pub turn-over-turned-requires : goal.turn-over-turned-requires
-turn-over-turned-requires g c = (_, _, _, (least_out g.T.Ordered.le g.met.T.Ordered.laws c.requires c.args.queue c.if-queue-ge-QUEUES.false c.in-Some.first c.in-Some.is _ _ (c.least-i.ensures _ (any_roots g.T.Ordered.le g.met.T.Ordered.laws c.requires c.args.queue c.if-queue-ge-QUEUES.false c.in-Some.first c.in-Some.is)).1 _ _ (omega (arith, c.take-out-others.auto.links)) (c.take-out-others.ensures _ _ _ _ (roots g.T.Ordered.le g.met.T.Ordered.laws c.requires c.args.queue c.if-queue-ge-QUEUES.false c.in-Some.first c.in-Some.is) (c.least-i.ensures _ (any_roots g.T.Ordered.le g.met.T.Ordered.laws c.requires c.args.queue c.if-queue-ge-QUEUES.false c.in-Some.first c.in-Some.is)).1)).forest)
+pub turn_over-turned-requires : goal.turn_over-turned-requires
+turn_over-turned-requires g c = (_, _, _, (least_out g.T.Ordered.le g.met.T.Ordered.laws c.requires c.args.queue c.if-queue-ge-QUEUES.false c.in-Some.first c.in-Some.is _ _ (c.least-i.ensures _ (any_roots g.T.Ordered.le g.met.T.Ordered.laws c.requires c.args.queue c.if-queue-ge-QUEUES.false c.in-Some.first c.in-Some.is)).1 _ _ (omega (arith, c.take_out-others.auto.links)) (c.take_out-others.ensures _ _ _ _ (roots g.T.Ordered.le g.met.T.Ordered.laws c.requires c.args.queue c.if-queue-ge-QUEUES.false c.in-Some.first c.in-Some.is) (c.least-i.ensures _ (any_roots g.T.Ordered.le g.met.T.Ordered.laws c.requires c.args.queue c.if-queue-ge-QUEUES.false c.in-Some.first c.in-Some.is)).1)).forest)
 
 pub meld-melded-requires : goal.meld-melded-requires
 meld-melded-requires g c =
-    let w = least_out g.T.Ordered.le g.met.T.Ordered.laws c.requires c.args.queue c.if-queue-ge-QUEUES.false c.in-Some.first c.in-Some.is _ _ (c.least-i.ensures _ (any_roots g.T.Ordered.le g.met.T.Ordered.laws c.requires c.args.queue c.if-queue-ge-QUEUES.false c.in-Some.first c.in-Some.is)).1 _ _ (omega (arith, c.take-out-others.auto.links)) (c.take-out-others.ensures _ _ _ _ (roots g.T.Ordered.le g.met.T.Ordered.laws c.requires c.args.queue c.if-queue-ge-QUEUES.false c.in-Some.first c.in-Some.is) (c.least-i.ensures _ (any_roots g.T.Ordered.le g.met.T.Ordered.laws c.requires c.args.queue c.if-queue-ge-QUEUES.false c.in-Some.first c.in-Some.is)).1) in
-    (_, _, w.meldable _ _ (omega (arith, c.turn-over-turned.auto.links)) (c.turn-over-turned.ensures _ _ _ w.forest))
+    let w = least_out g.T.Ordered.le g.met.T.Ordered.laws c.requires c.args.queue c.if-queue-ge-QUEUES.false c.in-Some.first c.in-Some.is _ _ (c.least-i.ensures _ (any_roots g.T.Ordered.le g.met.T.Ordered.laws c.requires c.args.queue c.if-queue-ge-QUEUES.false c.in-Some.first c.in-Some.is)).1 _ _ (omega (arith, c.take_out-others.auto.links)) (c.take_out-others.ensures _ _ _ _ (roots g.T.Ordered.le g.met.T.Ordered.laws c.requires c.args.queue c.if-queue-ge-QUEUES.false c.in-Some.first c.in-Some.is) (c.least-i.ensures _ (any_roots g.T.Ordered.le g.met.T.Ordered.laws c.requires c.args.queue c.if-queue-ge-QUEUES.false c.in-Some.first c.in-Some.is)).1) in
+    (_, _, w.meldable _ _ (omega (arith, c.turn_over-turned.auto.links)) (c.turn_over-turned.ensures _ _ _ w.forest))
 
 pub release-requires : goal.release-requires
-release-requires g c = omega (arith, c.turn-over-turned.auto.links, c.meld-melded.auto.links, (least_out g.T.Ordered.le g.met.T.Ordered.laws c.requires c.args.queue c.if-queue-ge-QUEUES.false c.in-Some.first c.in-Some.is _ _ (c.least-i.ensures _ (any_roots g.T.Ordered.le g.met.T.Ordered.laws c.requires c.args.queue c.if-queue-ge-QUEUES.false c.in-Some.first c.in-Some.is)).1 _ _ (omega (arith, c.take-out-others.auto.links)) (c.take-out-others.ensures _ _ _ _ (roots g.T.Ordered.le g.met.T.Ordered.laws c.requires c.args.queue c.if-queue-ge-QUEUES.false c.in-Some.first c.in-Some.is) (c.least-i.ensures _ (any_roots g.T.Ordered.le g.met.T.Ordered.laws c.requires c.args.queue c.if-queue-ge-QUEUES.false c.in-Some.first c.in-Some.is)).1)).within)
+release-requires g c = omega (arith, c.turn_over-turned.auto.links, c.meld-melded.auto.links, (least_out g.T.Ordered.le g.met.T.Ordered.laws c.requires c.args.queue c.if-queue-ge-QUEUES.false c.in-Some.first c.in-Some.is _ _ (c.least-i.ensures _ (any_roots g.T.Ordered.le g.met.T.Ordered.laws c.requires c.args.queue c.if-queue-ge-QUEUES.false c.in-Some.first c.in-Some.is)).1 _ _ (omega (arith, c.take_out-others.auto.links)) (c.take_out-others.ensures _ _ _ _ (roots g.T.Ordered.le g.met.T.Ordered.laws c.requires c.args.queue c.if-queue-ge-QUEUES.false c.in-Some.first c.in-Some.is) (c.least-i.ensures _ (any_roots g.T.Ordered.le g.met.T.Ordered.laws c.requires c.args.queue c.if-queue-ge-QUEUES.false c.in-Some.first c.in-Some.is)).1)).within)
 
-pub overflow-sub-count : goal.overflow-sub-count
-overflow-sub-count g c = omega (arith, least_counted g.T.Ordered.le g.met.T.Ordered.laws c.requires c.args.queue c.if-queue-ge-QUEUES.false c.in-Some.first c.in-Some.is _ _ (c.least-i.ensures _ (any_roots g.T.Ordered.le g.met.T.Ordered.laws c.requires c.args.queue c.if-queue-ge-QUEUES.false c.in-Some.first c.in-Some.is)).1)
+pub overflow_sub-count : goal.overflow_sub-count
+overflow_sub-count g c = omega (arith, least_counted g.T.Ordered.le g.met.T.Ordered.laws c.requires c.args.queue c.if-queue-ge-QUEUES.false c.in-Some.first c.in-Some.is _ _ (c.least-i.ensures _ (any_roots g.T.Ordered.le g.met.T.Ordered.laws c.requires c.args.queue c.if-queue-ge-QUEUES.false c.in-Some.first c.in-Some.is)).1)
 
-pub offset-bounds-entries-i : goal.offset-bounds-entries-i
-offset-bounds-entries-i g c = omega (arith, least_inside g.T.Ordered.le g.met.T.Ordered.laws c.requires c.args.queue c.if-queue-ge-QUEUES.false c.in-Some.first c.in-Some.is _ _ (c.least-i.ensures _ (any_roots g.T.Ordered.le g.met.T.Ordered.laws c.requires c.args.queue c.if-queue-ge-QUEUES.false c.in-Some.first c.in-Some.is)).1)
+pub offset_bounds-entries-i : goal.offset_bounds-entries-i
+offset_bounds-entries-i g c = omega (arith, least_inside g.T.Ordered.le g.met.T.Ordered.laws c.requires c.args.queue c.if-queue-ge-QUEUES.false c.in-Some.first c.in-Some.is _ _ (c.least-i.ensures _ (any_roots g.T.Ordered.le g.met.T.Ordered.laws c.requires c.args.queue c.if-queue-ge-QUEUES.false c.in-Some.first c.in-Some.is)).1)
 
 pub bounds-entries-i : goal.bounds-entries-i
 bounds-entries-i g c = least_inside g.T.Ordered.le g.met.T.Ordered.laws c.requires c.args.queue c.if-queue-ge-QUEUES.false c.in-Some.first c.in-Some.is _ _ (c.least-i.ensures _ (any_roots g.T.Ordered.le g.met.T.Ordered.laws c.requires c.args.queue c.if-queue-ge-QUEUES.false c.in-Some.first c.in-Some.is)).1
 
 pub returns-in-Some : goal.returns-in-Some
 returns-in-Some g c =
-    let w = least_out g.T.Ordered.le g.met.T.Ordered.laws c.requires c.args.queue c.if-queue-ge-QUEUES.false c.in-Some.first c.in-Some.is _ _ (c.least-i.ensures _ (any_roots g.T.Ordered.le g.met.T.Ordered.laws c.requires c.args.queue c.if-queue-ge-QUEUES.false c.in-Some.first c.in-Some.is)).1 _ _ (omega (arith, c.take-out-others.auto.links)) (c.take-out-others.ensures _ _ _ _ (roots g.T.Ordered.le g.met.T.Ordered.laws c.requires c.args.queue c.if-queue-ge-QUEUES.false c.in-Some.first c.in-Some.is) (c.least-i.ensures _ (any_roots g.T.Ordered.le g.met.T.Ordered.laws c.requires c.args.queue c.if-queue-ge-QUEUES.false c.in-Some.first c.in-Some.is)).1) in
-    let n = c.turn-over-turned.ensures _ _ _ w.forest in
-    let m = c.meld-melded.ensures _ _ (w.meldable _ _ (omega (arith, c.turn-over-turned.auto.links)) n) in
-    let d = w.done _ _ (omega (arith, c.turn-over-turned.auto.links)) n _ _ (omega (arith, c.meld-melded.auto.links)) m _ c.index-entries-i.is _ _ _ c.release.ensures.heads c.release.ensures.links c.settle.ensures in
+    let w = least_out g.T.Ordered.le g.met.T.Ordered.laws c.requires c.args.queue c.if-queue-ge-QUEUES.false c.in-Some.first c.in-Some.is _ _ (c.least-i.ensures _ (any_roots g.T.Ordered.le g.met.T.Ordered.laws c.requires c.args.queue c.if-queue-ge-QUEUES.false c.in-Some.first c.in-Some.is)).1 _ _ (omega (arith, c.take_out-others.auto.links)) (c.take_out-others.ensures _ _ _ _ (roots g.T.Ordered.le g.met.T.Ordered.laws c.requires c.args.queue c.if-queue-ge-QUEUES.false c.in-Some.first c.in-Some.is) (c.least-i.ensures _ (any_roots g.T.Ordered.le g.met.T.Ordered.laws c.requires c.args.queue c.if-queue-ge-QUEUES.false c.in-Some.first c.in-Some.is)).1) in
+    let n = c.turn_over-turned.ensures _ _ _ w.forest in
+    let m = c.meld-melded.ensures _ _ (w.meldable _ _ (omega (arith, c.turn_over-turned.auto.links)) n) in
+    let d = w.done _ _ (omega (arith, c.turn_over-turned.auto.links)) n _ _ (omega (arith, c.meld-melded.auto.links)) m _ c.index-entries-i.is _ _ _ c.release.ensures.heads c.release.ensures.links c.settle.ensures in
     record { sound = d.sound; effect = d.effect; heads = tt; links = tt }

@@ -3,8 +3,8 @@ use Rattle.simulations.proofs.Fitting.{station_fit}
 use Rattle.simulations.proofs.Closing.{fill_starts, fill_rests, fill_on, fill_over}
 use Rattle.workshop.proofs.Workshop.fill_turn.Goals as goal
 
-pub start-front-requires : goal.start-front-requires
-start-front-requires g c = record {
+pub start_front-requires : goal.start_front-requires
+start_front-requires g c = record {
   declared = c.requires.declared;
   place = c.requires.place;
   bench = omega (arith, c.if-station.true, (station_fit c.args.self.now.net.now c.args.j c.requires.fit.network).benches);
@@ -17,7 +17,7 @@ returns-in-Some g c = record { sound = c.requires.sound; turn = λ n a p. fill_o
 
 pub returns-then-station : goal.returns-then-station
 returns-then-station g c =
-    let s = c.start-front.ensures in
+    let s = c.start_front.ensures in
     record { sound = s.sound; turn = λ n a p. fill_on n c.args.j a _ p refl _ c.in-None.is (fill_starts c.args.j _ _ c.if-station.true s.call) }
 
 pub returns-else-station : goal.returns-else-station

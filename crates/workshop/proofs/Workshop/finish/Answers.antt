@@ -3,8 +3,8 @@ use Rattle.outcomes.specs.Simulation.{Control}
 use Rattle.simulations.proofs.Finishing.{vacated_fit, bench_after, vacated_used, vacated_place, release_on, finish_on, finish_stranded, stranded_fit}
 use Rattle.workshop.proofs.Workshop.finish.Goals as goal
 
-pub start-front-requires : goal.start-front-requires
-start-front-requires g c =
+pub start_front-requires : goal.start_front-requires
+start_front-requires g c =
     let e = c.vacate.ensures.control in
     let p = c.vacate.ensures.places in
     record {
@@ -19,7 +19,7 @@ pub returns-in-Some : goal.returns-in-Some
 returns-in-Some g c =
     let e = c.vacate.ensures.control in
     let p = c.vacate.ensures.places in
-    let s = c.start-front.ensures in
+    let s = c.start_front.ensures in
     record {
       sound = s.sound;
       call = record {
@@ -33,7 +33,7 @@ pub returns-in-None : goal.returns-in-None
 returns-in-None g c =
     let e = c.vacate.ensures.control in
     let p = c.vacate.ensures.places in
-    let s = c.start-front.ensures in
+    let s = c.start_front.ensures in
     let q = c.leave.ensures in
     record {
       sound = q.sound;

@@ -3,8 +3,8 @@ use Rattle.simulations.proofs.Fitting.{station_fit}
 use Rattle.simulations.proofs.Spending.{start_accepted, start_refused}
 use Rattle.workshop.proofs.Workshop.start.Goals as goal
 
-pub overflow-add-event : goal.overflow-add-event
-overflow-add-event g c = omega (arith, c.requires.fit.instant, (station_fit c.args.self.now.net.now c.args.k c.requires.fit.network).takes)
+pub overflow_add-event : goal.overflow_add-event
+overflow_add-event g c = omega (arith, c.requires.fit.instant, (station_fit c.args.self.now.net.now c.args.k c.requires.fit.network).takes)
 
 pub returns-in-Ok : goal.returns-in-Ok
 returns-in-Ok g c =

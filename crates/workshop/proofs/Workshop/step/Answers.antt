@@ -9,7 +9,7 @@ returns g c =
     record {
       sound = p.sound;
       steps = record {
-        enough = c.if-places-lt-STEP-PLACES.false;
+        enough = c.if-places-lt-STEP_PLACES.false;
         fit = p.call.fit;
         whole = enough_suffice step _ _ p.call.outcome;
         written = refl;

@@ -12,7 +12,7 @@ use Rattle.workshop.proofs.Workshop.withdraw.Goals as goal
 pub returns-in-FromLine : goal.returns-in-FromLine
 returns-in-FromLine g c =
     let p = c.cancel.ensures in
-    let q = c.pull-out.ensures in
+    let q = c.pull_out.ensures in
     let e = waited_left c.args.i c.args.kind _ _ _ c.requires.kind q.answer q.control c.in-FromLine.stamp c.in-FromLine.is in
     record {
       sound = (c.requires.sound.0, p.sound);
@@ -21,7 +21,7 @@ returns-in-FromLine g c =
 
 pub returns-in-Missed : goal.returns-in-Missed
 returns-in-Missed g c =
-    let q = c.pull-out.ensures in
+    let q = c.pull_out.ensures in
     let e = missed_left c.args.i c.args.kind _ _ _ c.requires.kind q.answer q.control c.in-Missed.is in
     let w = was_missed c.args.i c.args.kind _ _ _ c.requires.kind q.answer q.control c.in-Missed.is in
     record {
@@ -29,20 +29,20 @@ returns-in-Missed g c =
       call = withdraw_missed c.args.i _ _ _ _ _ _ c.requires.fit (omega (arith, c.requires.places)) _ refl w.told (c.note-in-Missed.ensures.control ∙ ap one_more e) (c.note-in-Missed.ensures.places ∙ ap (λ (x : Control). noted (Missed c.args.i) x c.args.places.now) e);
     }
 
-pub clear-bench-requires : goal.clear-bench-requires
-clear-bench-requires g c =
-    let q = c.pull-out.ensures in
+pub clear_bench-requires : goal.clear_bench-requires
+clear_bench-requires g c =
+    let q = c.pull_out.ensures in
     let e = served_left c.args.i c.args.kind _ _ _ c.requires.kind q.answer q.control c.in-FromBench.station c.in-FromBench.stamp c.in-FromBench.is in
     record { range = (state_fit c.args.self.now.net.now c.args.i _ c.requires.fit.network (served c.args.i c.args.kind _ _ _ c.requires.kind q.answer q.control c.in-FromBench.station c.in-FromBench.stamp c.in-FromBench.is), omega (arith, c.requires.places, ap (λ (x : Control). x.used) e)) }
 
-pub start-front-requires : goal.start-front-requires
-start-front-requires g c =
+pub start_front-requires : goal.start_front-requires
+start_front-requires g c =
     let p = c.cancel-in-FromBench.ensures in
-    let q = c.pull-out.ensures in
+    let q = c.pull_out.ensures in
     let e = served_left c.args.i c.args.kind _ _ _ c.requires.kind q.answer q.control c.in-FromBench.station c.in-FromBench.stamp c.in-FromBench.is in
     let k-is = state_fit c.args.self.now.net.now c.args.i _ c.requires.fit.network (served c.args.i c.args.kind _ _ _ c.requires.kind q.answer q.control c.in-FromBench.station c.in-FromBench.stamp c.in-FromBench.is) in
-    let de = c.clear-bench.ensures.control ∙ ap (λ (x : Control). one_more (with_network x (freed c.in-FromBench.station x.network))) e in
-    let pe = c.clear-bench.ensures.places ∙ ap (λ (x : Control). noted (Withdrawn c.args.i) x c.args.places.now) e in
+    let de = c.clear_bench.ensures.control ∙ ap (λ (x : Control). one_more (with_network x (freed c.in-FromBench.station x.network))) e in
+    let pe = c.clear_bench.ensures.places ∙ ap (λ (x : Control). noted (Withdrawn c.args.i) x c.args.places.now) e in
     record {
       declared = k-is;
       place = interrupted_place c.args.i c.in-FromBench.station _ _ _ _ de pe c.requires.places;
@@ -54,11 +54,11 @@ start-front-requires g c =
 pub returns-in-FromBench : goal.returns-in-FromBench
 returns-in-FromBench g c =
     let p = c.cancel-in-FromBench.ensures in
-    let q = c.pull-out.ensures in
+    let q = c.pull_out.ensures in
     let e = served_left c.args.i c.args.kind _ _ _ c.requires.kind q.answer q.control c.in-FromBench.station c.in-FromBench.stamp c.in-FromBench.is in
-    let de = c.clear-bench.ensures.control ∙ ap (λ (x : Control). one_more (with_network x (freed c.in-FromBench.station x.network))) e in
-    let pe = c.clear-bench.ensures.places ∙ ap (λ (x : Control). noted (Withdrawn c.args.i) x c.args.places.now) e in
-    let s = c.start-front.ensures in
+    let de = c.clear_bench.ensures.control ∙ ap (λ (x : Control). one_more (with_network x (freed c.in-FromBench.station x.network))) e in
+    let pe = c.clear_bench.ensures.places ∙ ap (λ (x : Control). noted (Withdrawn c.args.i) x c.args.places.now) e in
+    let s = c.start_front.ensures in
     record {
       sound = s.sound;
       call = record {

@@ -2,5 +2,5 @@ use Rattle.cells.proofs.Lending.{sound_out}
 use Rattle.binomial_trees.specs.Binomial.{binomial}
 use Rattle.binomial.proofs.store.Binomial.meld_in_place.Goals as goal
 
-pub meld-queues-answer-requires : goal.meld-queues-answer-requires
-meld-queues-answer-requires g c = sound_out (binomial g.T.Ordered.le) c.args.self.now.heads c.take-links.ensures.value c.take-entries.ensures.value c.requires
+pub meld_queues-answer-requires : goal.meld_queues-answer-requires
+meld_queues-answer-requires g c = sound_out (binomial g.T.Ordered.le) c.args.self.now.heads c.take-links.ensures.value c.take-entries.ensures.value c.requires

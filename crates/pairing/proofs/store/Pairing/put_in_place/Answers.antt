@@ -22,5 +22,5 @@ returns g c =
       effect = effect_back (pairing le) h p q (λ m. Puts le m c.args.queue c.args.element r (meaning_of (pairing le) c.put-answer.new.heads c.put-answer.new.links c.put-answer.new.entries)) e.effect;
       entries = e.entries ∙ ap (λ y. placed r h.free y.now c.args.element) q;
       refused = unchanged_back h p q r _ _ _ e.heads e.links (none_placed r h.free _ _ c.args.element e.entries);
-      lent = (ap (λ x. x.name) p, ap (λ y. y.name) q);
+      lent = (ap (λ x. x.ghost_name) p, ap (λ y. y.ghost_name) q);
     }

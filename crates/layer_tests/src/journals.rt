@@ -36,7 +36,7 @@ fn last_changes_are_kept(rt: HostRuntime) -> Result<(), Fail> {
     match journal_over_quota(table::make(&mut cells, 4, 8), [1; 32], 3) {
         Ok(made) => {
             let mut store = made;
-            passes(&rt, &mut store, &script)?;
+            passes(&mut store, &script)?;
             assert_eq!(rt; told(store.oldest(0)), (3, 0, 1));
             assert_eq!(rt; told(store.oldest(1)), (2, 0, 0));
             assert_eq!(rt; told(store.oldest(2)), (4, 1, 0));
@@ -80,7 +80,7 @@ fn whole_pile_over_a_heap(rt: HostRuntime) -> Result<(), Fail> {
     match journal_over_quota_over_lazy(heap, [65535; 32], 2) {
         Ok(made) => {
             let mut store = made;
-            passes(&rt, &mut store, &cancelled(1))?;
+            passes(&mut store, &cancelled(1))?;
             assert_eq!(rt; told(store.oldest(0)), (4, 0, 0));
             assert_eq!(rt; told(store.oldest(1)), (4, 2, 0));
             assert_eq!(rt; store.height(), 3);

@@ -37,7 +37,7 @@ fn run(
         return Err(Fail::new("unfit"));
     }
     let mut lazy = Lazy::make(store);
-    passes(rt, &mut lazy, script)
+    passes(&mut lazy, script)
 }
 
 #[test]

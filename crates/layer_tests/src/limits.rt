@@ -12,7 +12,7 @@ fn run(rt: &impl Abort, inner: u16, outer: u16, script: &[(Call, Answer)]) -> Re
     match quota_over_quota(make(&mut cells, 4, 8), [inner; 32], [outer; 32]) {
         Ok(made) => {
             let mut store = made;
-            passes(rt, &mut store, script)
+            passes(&mut store, script)
         }
         Err(_) => Err(Fail::new("unfit")),
     }

@@ -12,7 +12,7 @@ use Rattle.stores.specs.Meaning.{Sizes, list_of, bare_fixed}
 use Rattle.stores.specs.Promises.{Melds}
 use Rattle.stores.proofs.Merging.{tally-merge}
 use Rattle.stores.proofs.Answering.{melds_refused, meld_refused_into, meld_refused_from, meld_refused_same, meld_told}
-use Rattle.cells.specs.Trees.{Tree, leaf, root, size, uses}
+use Rattle.cells.specs.Trees.{Tree, leaf, size, uses}
 use Rattle.cells.specs.Forms.{Form, Stored, Meldable, Melded}
 use Rattle.cells.specs.Queues.{Sound, queue_of, no_queue, lists, state_of, meaning_of, with_queue}
 use Rattle.cells.specs.declared.heads.Queue.{Queue}

@@ -24,7 +24,7 @@ use Rattle.machine_laws.proofs.Elements.{all_get}
 use Rattle.machine_laws.proofs.Totalling.{total_le, only_at, find}
 use Rattle.machine_laws.proofs.TidyStores.{Tidy, sorted_at}
 use Rattle.machine_laws.proofs.Timing.{line_strict}
-use Rattle.machine_laws.proofs.Histories.{unfinished, Fair}
+use Rattle.machine_laws.proofs.Histories.{Fair}
 use Rattle.machine_laws.proofs.Orders.{wait_at, pending_in, Hand, IsInHand, Out, Fits, Base, Orders}
 use Rattle.machine_laws.proofs.Hands.{hold}
 use Rattle.machine_laws.proofs.Unchanged.{same_by, events_kept, told_kept, line_left, front_leaves}

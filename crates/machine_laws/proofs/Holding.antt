@@ -19,11 +19,10 @@ use Rattle.machine.specs.Machine.{Machine, with_instant, with_events, less_one, 
 use Rattle.machine.specs.Step.{next_event, take_event}
 use Rattle.machine_laws.specs.Arrivals.{is_arrival}
 use Rattle.machine_laws.specs.Entries.{total}
-use Rattle.machine_laws.specs.History.{place}
 use Rattle.machine_laws.specs.Whereabouts.{one, arrives, arrival_of, ends, finish_of, wait_of, Spot}
 use Rattle.machine_laws.proofs.Elements.{all_get}
 use Rattle.machine_laws.proofs.Histories.{waits, waits_push, place_push, unfinished, unfinished_push, Good, good_push}
-use Rattle.machine_laws.proofs.Orders.{any_arrival, pending_in, pending, Hand, IsInHand, Out, stale, Fits, Ranged, Base, Orders, Same, Stays, fits_same, hand_same}
+use Rattle.machine_laws.proofs.Orders.{any_arrival, pending_in, Hand, IsInHand, Out, stale, Fits, Ranged, Base, Orders, Same, Stays, fits_same, hand_same}
 use Rattle.machine_laws.proofs.Hands.{hold}
 use Rattle.machine_laws.proofs.Unchanged.{same_by, events_kept, lines_kept, told_kept, Foreign, foreign_finish, foreign_arrival, event_left, front_leaves, told_silent, finish_silent}
 use Rattle.machine_laws.proofs.Spending.{Written}

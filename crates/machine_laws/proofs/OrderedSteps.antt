@@ -10,7 +10,7 @@ use Rattle.machine.specs.declared.networks.OrderState.TheVariants.{Done as is-do
 use Rattle.machine.specs.declared.records.RecordKind.TheVariants.{Away, Done}
 use Rattle.machine.specs.declared.records.StoreName.{StoreName}
 use Rattle.machine.specs.declared.records.StoreName.TheVariants.{Events, Orders as order-store}
-use Rattle.machine.specs.Network.{station, order, has_free, open_station, marked, freed}
+use Rattle.machine.specs.Network.{station, has_free, open_station}
 use Rattle.machine.specs.Machine.{Machine, with_cut, fail, mark, strand}
 use Rattle.machine.specs.Puts.{event_tried, line_tried}
 use Rattle.machine.specs.Step.{started, start, at_limit, turned_away, waited, wait, its_entry, finish_event, enter_by, enter, line, start_by, start_front, leave_by, leave}

@@ -26,7 +26,7 @@ use Rattle.machine_laws.specs.Whereabouts.{one, arrives, arrival_of, ends, finis
 use Rattle.machine_laws.proofs.Elements.{all_get, all_without}
 use Rattle.machine_laws.proofs.Totalling.{stamp_is, total_le, Leaves, cancel_leaves}
 use Rattle.machine_laws.proofs.TidyStores.{Tidy}
-use Rattle.machine_laws.proofs.Histories.{waits, waits_push, place_push, unfinished, good_push}
+use Rattle.machine_laws.proofs.Histories.{waits_push, place_push, unfinished, good_push}
 use Rattle.machine_laws.proofs.Orders.{wait_at, any_arrival, pending_in, Hand, Fits, Ranged, Base, Orders}
 use Rattle.machine_laws.proofs.Hands.{Marks, spend, hold}
 use Rattle.machine_laws.proofs.Unchanged.{same_by, events_kept, lines_kept, told_kept, foreign_finish, Foreign, event_left, line_left, told_silent, withdrawn_silent}

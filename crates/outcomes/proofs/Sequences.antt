@@ -1,5 +1,5 @@
 -- The parts of a call, one after the other.
-use Rattle.std.proofs.Common.{◌≡◌, ℕ, ◌+◌, ◌-◌, Bool, true, false, ◌⊎◌, List, [], ◌∷◌, ◌++◌, length, drop, Some, Option, sym, refl, ap, ◌∙◌, subst, inl, inr, le_refl, add_assoc, arith, drop-drop}
+use Rattle.std.proofs.Common.{◌≡◌, ℕ, ◌+◌, ◌-◌, Bool, true, false, ◌⊎◌, List, [], ◌∷◌, ◌++◌, drop, Some, Option, sym, refl, ap, ◌∙◌, subst, inl, inr, le_refl, add_assoc, arith, drop-drop}
 use Rattle.std.proofs.lemmas.Bool.{both_ways}
 use Rattle.machine.specs.declared.records.StoreName.{StoreName}
 use Rattle.machine.specs.declared.records.StoreName.TheVariants.{Events, Orders}

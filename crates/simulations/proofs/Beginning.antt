@@ -1,5 +1,5 @@
 -- A draft over unused stores is the machine at its start.
-use Rattle.std.proofs.Common.{◌≡◌, ℕ, zero, suc, List, [], length, replicate, None, sym, refl, ap, ◌∙◌, subst, arith}
+use Rattle.std.proofs.Common.{◌≡◌, ℕ, zero, suc, List, [], replicate, None, sym, ap, ◌∙◌, subst, arith}
 use Rattle.std.specs.List.{AllByRecursion as All}
 use Rattle.std.proofs.lemmas.List.{length-replicate}
 use Rattle.elements.specs.declared.events.Event.{Event}
@@ -10,7 +10,7 @@ use Rattle.stores.specs.Meaning.{State, Meaning, WellFormed, fresh}
 use Rattle.stores.proofs.Unused.{fresh_state}
 use Rattle.machine.specs.declared.networks.Network.{Network}
 use Rattle.machine.specs.Network.{no_station, no_order, cleared}
-use Rattle.machine.specs.Machine.{Machine, bounds_of, start_machine, with_events, with_lines}
+use Rattle.machine.specs.Machine.{bounds_of, start_machine, with_events, with_lines}
 use Rattle.outcomes.specs.Simulation.{machine_of}
 use Rattle.simulations.specs.Conditions.{StationFit, OrderFit, NetworkFit, EventFit, LineFit, Fit, Each}
 use Rattle.simulations.specs.Drafts.{draft, nothing}

@@ -6,15 +6,15 @@ use Rattle.elements.specs.declared.entries.Entry.{Entry}
 use Rattle.elements.specs.Elements.{event_le, line_le}
 use Rattle.stores.specs.declared.refusals.Refusal.{Refusal}
 use Rattle.stores.specs.Meaning.{State, Meaning, live}
-use Rattle.stores.specs.Calls.{cancel_answer, cancel_after, found, queue_with}
+use Rattle.stores.specs.Calls.{cancel_after, found, queue_with}
 use Rattle.stores.specs.Promises.{Cancels, Unchanged}
 use Rattle.stores.proofs.Counting.{adds_up}
 use Rattle.machine.specs.declared.records.Record.{Record}
 use Rattle.machine.specs.declared.records.StoreName.{StoreName}
 use Rattle.machine.specs.declared.records.StoreName.TheVariants.{Events, Orders}
-use Rattle.machine.specs.Machine.{Machine, bounds_of, with_events, with_lines}
+use Rattle.machine.specs.Machine.{bounds_of, with_events, with_lines}
 use Rattle.machine.specs.Step.{cancel_event, cancel_line}
-use Rattle.outcomes.specs.Simulation.{Control, Simulation, Earlier, no_takes, machine_of, cells}
+use Rattle.outcomes.specs.Simulation.{Control, Earlier, no_takes, machine_of, cells}
 use Rattle.outcomes.specs.Outcomes.{Counted}
 use Rattle.simulations.specs.Conditions.{Each}
 use Rattle.simulations.specs.Writes.{simulation}

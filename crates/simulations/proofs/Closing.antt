@@ -6,7 +6,7 @@ use Rattle.elements.specs.declared.lines.LineEntry.{LineEntry}
 use Rattle.elements.specs.Elements.{line_le}
 use Rattle.stores.specs.declared.refusals.Refusal.{Refusal}
 use Rattle.stores.specs.declared.refusals.Refusal.TheVariants.{QueueNumber, SameQueue}
-use Rattle.stores.specs.Meaning.{State, Meaning, list_of, count_of, live}
+use Rattle.stores.specs.Meaning.{State, Meaning, count_of, live}
 use Rattle.stores.specs.Calls.{meld_answer, meld_after}
 use Rattle.stores.specs.Promises.{Melds}
 use Rattle.stores.proofs.Counting.{adds_up}
@@ -17,8 +17,8 @@ use Rattle.machine.specs.declared.records.StoreName.{StoreName}
 use Rattle.machine.specs.declared.records.StoreName.TheVariants.{Events, Orders}
 use Rattle.machine.specs.declared.records.Fault.{Fault}
 use Rattle.machine.specs.Network.{station, closed, has_free}
-use Rattle.machine.specs.Machine.{Machine, bounds_of, with_cut, with_lines, with_network as network-set, tell, is_some, halted, as_is}
-use Rattle.machine.specs.Step.{start_front, fill_by, fill_one, fill, stays_open, close_into, close_by, close}
+use Rattle.machine.specs.Machine.{bounds_of, with_cut, with_lines, tell, halted, as_is}
+use Rattle.machine.specs.Step.{start_front, fill_by, fill_one, fill, stays_open, close_by, close}
 use Rattle.outcomes.specs.Simulation.{Control, Simulation, Earlier, no_takes, machine_of, cells}
 use Rattle.outcomes.specs.Outcomes.{Counted, Outcome}
 use Rattle.outcomes.proofs.Onwards.{outcome_onward, outcome_quiet, outcome_none, no_takes_more}

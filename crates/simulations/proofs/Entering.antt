@@ -1,5 +1,5 @@
 -- Following closings, entering a station, and starting the front of a line.
-use Rattle.std.proofs.Common.{◌≡◌, ℕ, zero, suc, ◌+◌, ◌-◌, ◌<◌, ◌≤◌, Bool, true, false, cond, ltb, leb, List, length, Some, None, Ok, Err, Option, Result, sym, refl, ap, ◌∙◌, subst, arith}
+use Rattle.std.proofs.Common.{◌≡◌, ℕ, zero, suc, ◌+◌, ◌-◌, ◌<◌, ◌≤◌, Bool, true, false, cond, List, Some, None, Ok, Err, Option, Result, sym, refl, ap, ◌∙◌, subst, arith}
 use Rattle.std.proofs.lemmas.Bool.{lt-ltb, le-ltb, lt-leb}
 use Rattle.elements.specs.declared.events.Event.{Event}
 use Rattle.elements.specs.declared.lines.LineEntry.{LineEntry}
@@ -8,7 +8,7 @@ use Rattle.elements.specs.Elements.{line_le}
 use Rattle.stores.specs.declared.refusals.Refusal.{Refusal}
 use Rattle.stores.specs.declared.refusals.Refusal.TheVariants.{QueueNumber}
 use Rattle.stores.specs.Meaning.{State, Meaning, list_of, live}
-use Rattle.stores.specs.Calls.{first_answer, take_after, front}
+use Rattle.stores.specs.Calls.{take_after, front}
 use Rattle.stores.specs.Promises.{Takes}
 use Rattle.stores.proofs.Counting.{adds_up}
 use Rattle.machine.specs.declared.networks.Network.{Network}
@@ -16,9 +16,9 @@ use Rattle.machine.specs.declared.records.Record.{Record}
 use Rattle.machine.specs.declared.records.StoreName.{StoreName}
 use Rattle.machine.specs.declared.records.StoreName.TheVariants.{Events, Orders}
 use Rattle.machine.specs.Network.{station, open_station, has_free, follow, follow_by}
-use Rattle.machine.specs.Machine.{Machine, Bounds, bounds_of, with_cut, with_lines}
+use Rattle.machine.specs.Machine.{Machine, bounds_of, with_cut, with_lines}
 use Rattle.machine.specs.Step.{start, wait, enter, enter_at, enter_by, take_line, start_by, start_front}
-use Rattle.outcomes.specs.Simulation.{Control, Simulation, Earlier, Takes as Taken, no_takes, and_takes, machine_of, cells, uses}
+use Rattle.outcomes.specs.Simulation.{Control, Simulation, Earlier, Takes as Taken, no_takes, and_takes, machine_of, cells}
 use Rattle.outcomes.specs.Outcomes.{Counted, Outcome}
 use Rattle.outcomes.proofs.Onwards.{outcome_onward, outcome_quiet, no_takes_more}
 use Rattle.outcomes.proofs.Sequences.{written_not}

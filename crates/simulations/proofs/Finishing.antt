@@ -1,17 +1,16 @@
 -- A finished order: its bench is free, the line's front starts, and it goes on, or is stranded where that start ended the
 -- run.
-use Rattle.std.proofs.Common.{◌≡◌, ℕ, ◌+◌, ◌-◌, ◌<◌, ◌≤◌, true, false, List, length, Some, None, Option, sym, refl, ap, ◌∙◌, subst, le_refl, arith, length-set, get_or-set_same}
+use Rattle.std.proofs.Common.{◌≡◌, ℕ, ◌+◌, ◌-◌, ◌<◌, ◌≤◌, true, false, List, length, Some, None, sym, refl, ap, ◌∙◌, subst, le_refl, arith, length-set, get_or-set_same}
 use Rattle.elements.specs.declared.events.Event.{Event}
 use Rattle.elements.specs.declared.lines.LineEntry.{LineEntry}
 use Rattle.stores.specs.Meaning.{Meaning}
 use Rattle.machine.specs.declared.networks.Station.{Station}
 use Rattle.machine.specs.declared.networks.OrderState.TheVariants.{Done as is-done, Stranded}
-use Rattle.machine.specs.declared.forms.ScriptRefusal.{ScriptRefusal}
 use Rattle.machine.specs.declared.records.RecordKind.TheVariants.{Finish, Done}
 use Rattle.machine.specs.declared.records.Record.{Record}
 use Rattle.machine.specs.declared.records.Fault.{Fault}
 use Rattle.machine.specs.Network.{no_station, station, marked, freed, with_busy}
-use Rattle.machine.specs.Machine.{Machine, with_cut, strand, halted, halted_by}
+use Rattle.machine.specs.Machine.{with_cut, strand, halted, halted_by}
 use Rattle.machine.specs.Step.{start_front, release, free_bench, leave, leave_by, enter, finish}
 use Rattle.outcomes.specs.Simulation.{Control, Simulation, Earlier, no_takes, machine_of}
 use Rattle.outcomes.specs.Outcomes.{Outcome}
@@ -19,7 +18,7 @@ use Rattle.outcomes.proofs.Onwards.{outcome_onward, outcome_quiet, no_takes_more
 use Rattle.outcomes.proofs.Sequences.{outcome_then, outcome_else}
 use Rattle.outcomes.proofs.Ends.{ends_halted, tidy_strand}
 use Rattle.simulations.specs.Conditions.{IsStation, Fit}
-use Rattle.simulations.specs.Writes.{simulation, with_network, one_more, noted, completed, stranded, vacated}
+use Rattle.simulations.specs.Writes.{simulation, with_network, noted, completed, stranded, vacated}
 use Rattle.simulations.proofs.Fitting.{fit_marked, fit_freed, station_fit}
 use Rattle.simulations.proofs.Writing.{machine_noted, written_noted, written_kept, kept_uses, kept_issued, kept_cells, kept_counted}
 use Rattle.simulations.specs.Calls.{Call}

@@ -1,10 +1,10 @@
 -- What calls need stays so.
-use Rattle.std.proofs.Common.{◌≡◌, ℕ, zero, suc, ◌+◌, ◌-◌, ◌<◌, ◌≤◌, Bool, true, false, cond, eqb, List, [], ◌∷◌, length, get_or, set, Some, None, Ok, Err, Option, Result, sym, refl, ap, ◌∙◌, subst, arith, length-set}
+use Rattle.std.proofs.Common.{◌≡◌, ℕ, zero, suc, ◌+◌, ◌<◌, ◌≤◌, Bool, true, false, cond, eqb, List, [], ◌∷◌, get_or, set, Some, None, Ok, Err, Option, Result, ◌∙◌, subst, arith, length-set}
 use Rattle.std.specs.List.{AllByRecursion as All}
 use Rattle.elements.specs.declared.entries.Entry.{Entry}
 use Rattle.elements.specs.Order.{precedes_by, stamp_of}
 use Rattle.stores.specs.declared.refusals.Refusal.{Refusal}
-use Rattle.stores.specs.SortedLists.{merge, merge_at, insert, without}
+use Rattle.stores.specs.SortedLists.{merge, merge_at, without}
 use Rattle.stores.specs.Meaning.{State, list_of}
 use Rattle.stores.specs.Calls.{put_after, take_after, meld_after, cancel_after, front, rest}
 use Rattle.machine.specs.declared.networks.Network.{Network}

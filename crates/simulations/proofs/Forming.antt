@@ -1,8 +1,7 @@
 -- The forms: refused at once, accepted, or put into the event store.
-use Rattle.std.proofs.Common.{◌≡◌, ℕ, ◌+◌, ◌<◌, ◌≤◌, List, [], set, Some, None, Ok, Err, Option, Result, sym, refl, ap, ◌∙◌, subst, arith, length-set}
+use Rattle.std.proofs.Common.{◌≡◌, ℕ, [], Some, None, Ok, Err, Option, Result, sym, refl, ap, ◌∙◌, subst, length-set}
 use Rattle.elements.specs.declared.events.Event.{Event}
 use Rattle.elements.specs.declared.events.EventKind.{EventKind}
-use Rattle.elements.specs.declared.events.EventKind.TheVariants.{Arrive, Withdraw as Withdrawing, Close as Closing}
 use Rattle.elements.specs.declared.lines.LineEntry.{LineEntry}
 use Rattle.elements.specs.Elements.{event_le}
 use Rattle.stores.specs.declared.refusals.Refusal.{Refusal}
@@ -10,7 +9,6 @@ use Rattle.stores.specs.declared.refusals.Refusal.TheVariants.{NoCell}
 use Rattle.stores.specs.Meaning.{Meaning}
 use Rattle.stores.specs.Promises.{Puts}
 use Rattle.machine.specs.declared.networks.Network.{Network}
-use Rattle.machine.specs.declared.networks.Station.{Station}
 use Rattle.machine.specs.declared.networks.Order.{Order}
 use Rattle.machine.specs.declared.forms.Form.{Form}
 use Rattle.machine.specs.declared.forms.Form.TheVariants.{Station as a-station, Order as an-order, Withdraw, Close, End}
@@ -30,9 +28,9 @@ use Rattle.outcomes.specs.Composition.{Follows}
 use Rattle.outcomes.proofs.Onwards.{outcome_onward, outcome_quiet, no_takes_more}
 use Rattle.outcomes.proofs.OnePut.{outcome_event_put}
 use Rattle.outcomes.proofs.Cells.{enough_suffice}
-use Rattle.simulations.specs.Conditions.{IsTick, KindFit, EventFit, StationFit, StateFit, OrderFit, NetworkFit, Fit, Each}
+use Rattle.simulations.specs.Conditions.{KindFit, EventFit, StationFit, OrderFit, NetworkFit, Fit, Each}
 use Rattle.simulations.specs.Writes.{simulation}
-use Rattle.simulations.specs.Drafts.{draft_control, draft, nothing, refused_at_once, as_line, Forms}
+use Rattle.simulations.specs.Drafts.{draft_control, draft, refused_at_once, Forms}
 use Rattle.simulations.proofs.Fitting.{all_set, each_put}
 use Rattle.simulations.proofs.Writing.{written_kept, kept_cells, kept_counted}
 use Rattle.simulations.proofs.Entering.{outcome_as}

@@ -1,5 +1,5 @@
 -- Starting an order, and putting it in a line: each way through.
-use Rattle.std.proofs.Common.{◌≡◌, ℕ, ◌+◌, ◌<◌, ◌≤◌, Bool, true, false, List, [], ◌∷◌, length, Some, None, Ok, Err, Option, Result, sym, refl, ap, ◌∙◌, subst, le_refl, arith}
+use Rattle.std.proofs.Common.{◌≡◌, ℕ, ◌+◌, ◌<◌, Bool, true, false, List, length, Ok, Err, Option, Result, sym, refl, ap, ◌∙◌, subst, le_refl, arith}
 use Rattle.elements.specs.declared.events.Event.{Event}
 use Rattle.elements.specs.declared.events.EventKind.TheVariants.{Finish as Finishing}
 use Rattle.elements.specs.declared.lines.LineEntry.{LineEntry}
@@ -17,12 +17,11 @@ use Rattle.machine.specs.Network.{station, marked, occupied, line_entry}
 use Rattle.machine.specs.Machine.{Machine, with_cut, with_lines}
 use Rattle.machine.specs.Step.{started as machine-started, start, waited, wait, finish_event, its_entry, at_limit, turned_away}
 use Rattle.outcomes.specs.Simulation.{Control, Simulation, Earlier, machine_of, store_of, entries_in}
-use Rattle.outcomes.specs.Outcomes.{Outcome}
 use Rattle.outcomes.specs.Composition.{Follows}
 use Rattle.outcomes.proofs.OnePut.{outcome_event_put, outcome_line_put}
 use Rattle.simulations.specs.Conditions.{IsOrder, IsStation, Fit, Each, EventFit, LineFit}
 use Rattle.simulations.specs.Calls.{Call}
-use Rattle.simulations.specs.Writes.{simulation, with_network, one_more, noted, failed, started, queued, sent_away, stranded}
+use Rattle.simulations.specs.Writes.{simulation, with_network, noted, failed, started, queued, sent_away, stranded}
 use Rattle.simulations.proofs.Fitting.{each_put, fit_marked, fit_occupied}
 use Rattle.simulations.proofs.Writing.{machine_noted, written_noted, written_kept}
 

@@ -1,9 +1,8 @@
 -- A step: the front event is taken and happens, or nothing is left to do.
-use Rattle.std.proofs.Common.{◌≡◌, ℕ, ◌+◌, ◌<◌, ◌≤◌, Bool, true, false, ltb, List, length, Some, None, Ok, Option, Result, sym, refl, ap, ◌∙◌, subst, arith}
-use Rattle.std.proofs.lemmas.Bool.{both_ways, lt-ltb, le-ltb, ltb-true, ltb-false}
+use Rattle.std.proofs.Common.{◌≡◌, ℕ, ◌+◌, ◌≤◌, Bool, true, false, ltb, List, Some, None, Ok, Option, Result, sym, refl, ap, ◌∙◌, subst, arith}
+use Rattle.std.proofs.lemmas.Bool.{ltb-false}
 use Rattle.elements.specs.declared.events.Event.{Event}
 use Rattle.elements.specs.declared.events.EventKind.{EventKind}
-use Rattle.elements.specs.declared.events.EventKind.TheVariants.{Arrive, Finish as Finishing, Withdraw, Close as Closing}
 use Rattle.elements.specs.declared.lines.LineEntry.{LineEntry}
 use Rattle.elements.specs.declared.entries.Entry.{Entry}
 use Rattle.elements.specs.Elements.{event_le}
@@ -16,9 +15,9 @@ use Rattle.machine.specs.declared.records.Fault.{Fault}
 use Rattle.machine.specs.declared.records.StoreName.{StoreName}
 use Rattle.machine.specs.declared.records.StoreName.TheVariants.{Events, Orders}
 use Rattle.machine.specs.Machine.{Machine, bounds_of, with_cut, with_events, with_instant, as_is}
-use Rattle.machine.specs.Step.{react, step, step_by, happen, take_event, due_by, not_after}
-use Rattle.outcomes.specs.Simulation.{Control, Simulation, Earlier, Takes as Taken, no_takes, and_takes, machine_of, cells}
-use Rattle.outcomes.specs.Outcomes.{Counted, Outcome}
+use Rattle.machine.specs.Step.{react, step, step_by, take_event, due_by, not_after}
+use Rattle.outcomes.specs.Simulation.{Control, Simulation, Earlier, Takes as Taken, and_takes, machine_of, cells}
+use Rattle.outcomes.specs.Outcomes.{Counted}
 use Rattle.outcomes.proofs.Onwards.{outcome_onward, outcome_none}
 use Rattle.simulations.specs.Conditions.{IsTick, WhenSome, KindFit, EventFit, Fit, Each}
 use Rattle.simulations.specs.Writes.{simulation}

@@ -1,5 +1,5 @@
 -- Simulations that differ by one write.
-use Rattle.std.proofs.Common.{◌≡◌, ℕ, ◌+◌, ◌<◌, ◌≤◌, List, [], ◌∷◌, ◌++◌, length, take, drop, set, Some, None, Option, sym, refl, ap, ◌∙◌, subst, arith, length-set, drop-set-lt}
+use Rattle.std.proofs.Common.{◌≡◌, ◌+◌, ◌<◌, List, [], ◌∷◌, ◌++◌, length, take, drop, set, None, sym, refl, ap, ◌∙◌, arith, length-set, drop-set-lt}
 use Rattle.std.proofs.lemmas.List.{take_more_set, append_assoc}
 use Rattle.elements.specs.declared.events.Event.{Event}
 use Rattle.elements.specs.declared.lines.LineEntry.{LineEntry}
@@ -8,7 +8,7 @@ use Rattle.machine.specs.declared.records.RecordKind.{RecordKind}
 use Rattle.machine.specs.declared.records.Record.{Record}
 use Rattle.machine.specs.declared.records.StoreName.{StoreName}
 use Rattle.machine.specs.declared.records.StoreName.TheVariants.{Events, Orders}
-use Rattle.machine.specs.Machine.{Machine, tell}
+use Rattle.machine.specs.Machine.{tell}
 use Rattle.outcomes.specs.Simulation.{Control, Simulation, Earlier, no_takes, machine_of, store_of, cells, uses, issued}
 use Rattle.outcomes.specs.Outcomes.{Counted, Written}
 use Rattle.simulations.specs.Writes.{simulation, one_more, noted}

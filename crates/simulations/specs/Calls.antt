@@ -1,5 +1,5 @@
 -- What a step and its parts promise.
-use Rattle.std.specs.Prelude.{◌≡◌, ℕ, ◌+◌, ◌<◌, ◌≤◌, length, Ok, Err, Option, Result}
+use Rattle.std.specs.Prelude.{◌≡◌, ℕ, ◌+◌, ◌≤◌, length, Ok, Err, Option, Result}
 use Rattle.elements.specs.declared.events.Event.{Event}
 use Rattle.stores.specs.Meaning.{list_of}
 use Rattle.stores.specs.Calls.{front}

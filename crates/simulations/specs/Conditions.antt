@@ -1,5 +1,5 @@
 -- What every call over a network and its two stores needs and keeps: whatever is named in them exists.
-use Rattle.std.specs.Prelude.{◌≡◌, ℕ, ◌<◌, ◌≤◌, List, length, Some, None, Option}
+use Rattle.std.specs.Prelude.{◌≡◌, ℕ, ◌<◌, ◌≤◌, length, Some, None, Option}
 use Rattle.std.specs.List.{AllByRecursion as All}
 use Rattle.elements.specs.declared.events.Event.{Event}
 use Rattle.elements.specs.declared.events.EventKind.{EventKind}

@@ -1,5 +1,5 @@
 -- A network that takes forms, and what a form promises.
-use Rattle.std.specs.Prelude.{List, [], Some, None, Option}
+use Rattle.std.specs.Prelude.{[], Some, None, Option}
 use Rattle.elements.specs.declared.events.Event.{Event}
 use Rattle.elements.specs.declared.lines.LineEntry.{LineEntry}
 use Rattle.stores.specs.Meaning.{Meaning}
@@ -8,7 +8,6 @@ use Rattle.machine.specs.declared.forms.Form.{Form}
 use Rattle.machine.specs.declared.forms.FormRefusal.{FormRefusal}
 use Rattle.machine.specs.declared.forms.ScriptRefusal.{ScriptRefusal}
 use Rattle.machine.specs.declared.forms.ScriptRefusal.TheVariants.{Form as form-refused}
-use Rattle.machine.specs.Machine.{Machine}
 use Rattle.machine.specs.Forms.{form, form_refusal}
 use Rattle.outcomes.specs.Simulation.{Control, Simulation, Earlier, no_takes, machine_of}
 use Rattle.outcomes.specs.Outcomes.{Whole}

@@ -1,11 +1,11 @@
 -- What the calls answer, a way at a time, and what a refused call promises.
-use Rattle.std.proofs.Common.{◌≡◌, ℕ, zero, suc, ◌+◌, ◌<◌, ◌≤◌, Bool, true, false, cond, ◌||◌, eqb, leb, List, [], get_or, replicate, Some, None, Ok, Err, Option, Result, sym, refl, ap, ◌∙◌, arith}
+use Rattle.std.proofs.Common.{◌≡◌, ℕ, zero, suc, ◌+◌, ◌<◌, ◌≤◌, Bool, true, false, cond, ◌||◌, eqb, leb, List, [], get_or, replicate, None, Ok, Err, Option, Result, sym, refl, ap, ◌∙◌, arith}
 use Rattle.std.specs.List.{AllByRecursion as All}
 use Rattle.std.proofs.lemmas.Bool.{lt-leb, le-leb, eq-eqb, ne_eqb}
 use Rattle.elements.specs.declared.entries.Entry.{Entry}
 use Rattle.stores.specs.declared.refusals.Refusal.{Refusal}
 use Rattle.stores.specs.declared.refusals.Refusal.TheVariants.{QueueNumber, SameQueue, AtLimit, NoCell, NoStamp}
-use Rattle.stores.specs.Meaning.{Pair, State, Fixed, Meaning, WellFormed, AtMost, list_of, count_of, live, limits_of, reached, reached_height, bare_fixed}
+use Rattle.stores.specs.Meaning.{Pair, State, Meaning, WellFormed, AtMost, list_of, count_of, live, limits_of, reached, reached_height, bare_fixed}
 use Rattle.stores.specs.Calls.{put_answer, first_answer, meld_answer, count_answer, cancel_answer, front}
 use Rattle.stores.specs.Promises.{Puts, Takes, Melds, Cancels, Unchanged}
 

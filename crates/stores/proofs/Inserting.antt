@@ -1,12 +1,12 @@
 -- One entry enters a sorted list, or leaves it again.
-use Rattle.std.proofs.Common.{◌≡◌, ℕ, ◌+◌, ◌<◌, ◌≤◌, Bool, true, false, cond, eqb, ◌⊎◌, List, [], ◌∷◌, length, Some, None, Option, sym, refl, ap, ◌∙◌, subst, inl, inr, arith}
-use Rattle.std.proofs.lemmas.Bool.{cases_Bool, cond-true, cond-false, eq-eqb, ne_eqb, both_ways}
+use Rattle.std.proofs.Common.{◌≡◌, ℕ, ◌+◌, ◌<◌, ◌≤◌, Bool, true, false, cond, eqb, ◌⊎◌, List, [], ◌∷◌, length, Some, sym, refl, ap, ◌∙◌, inl, inr, arith}
+use Rattle.std.proofs.lemmas.Bool.{cases_Bool, cond-true, cond-false, eq-eqb, both_ways}
 use Rattle.std.proofs.lemmas.Bool.Decides.{nat_tests}
 use Rattle.elements.specs.declared.entries.Entry.{Entry}
 use Rattle.elements.specs.Order.{Strict, stamp_of}
 use Rattle.stores.specs.SortedLists.{merge, insert, has, without, tally, Sorted}
 use Rattle.stores.specs.Calls.{front, rest}
-use Rattle.stores.proofs.Merging.{take_left, take_right, merge-nil, merge_assoc, merge_comm, tally-merge, sorted_merge}
+use Rattle.stores.proofs.Merging.{take_left, take_right, merge_assoc, merge_comm, tally-merge, sorted_merge}
 
 module _ {A : Type 0} (before : A → A → Bool) where
   length_2 : (x : A) (xs : List A) → ((us : List A) → length (merge before xs us) ≡ length xs + length us) → (ys : List A) → length (merge before (x ∷ xs) ys) ≡ length (x ∷ xs) + length ys

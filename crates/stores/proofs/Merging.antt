@@ -1,9 +1,9 @@
 -- Laws of the joining of lists, over any test `before`.
-use Rattle.std.proofs.Common.{◌≡◌, ℕ, ◌+◌, ◌≤◌, Bool, true, false, cond, eqb, ◌⊎◌, List, [], ◌∷◌, sym, refl, ap, ◌∙◌, inl, inr, arith}
-use Rattle.std.proofs.lemmas.Bool.{cases_Bool, eq-eqb, ne_eqb, cases_eq}
+use Rattle.std.proofs.Common.{◌≡◌, ℕ, ◌+◌, ◌≤◌, Bool, true, false, ◌⊎◌, List, [], ◌∷◌, sym, refl, ap, ◌∙◌, inl, inr, arith}
+use Rattle.std.proofs.lemmas.Bool.{cases_Bool}
 use Rattle.std.proofs.lemmas.Bool.Decides.{nat_tests}
 use Rattle.elements.specs.Order.{Strict}
-use Rattle.stores.specs.SortedLists.{merge, merge_at, tally, Leads, Sorted}
+use Rattle.stores.specs.SortedLists.{merge, tally, Leads, Sorted}
 
 module _ {A : Type 0} (before : A → A → Bool) where
   pub take_left : (x : A) (xs : List A) (y : A) (ys : List A) → before y x ≡ false → merge before (x ∷ xs) (y ∷ ys) ≡ x ∷ merge before xs (y ∷ ys)

@@ -3,7 +3,7 @@ use Rattle.std.specs.Prelude.{◌≡◌, ℕ, List, [], ◌∷◌, replicate, Ok
 use Rattle.elements.specs.declared.lines.LineEntry.{LineEntry}
 use Rattle.elements.specs.Elements.{line_le}
 use Rattle.stores.specs.declared.refusals.Refusal.TheVariants.{AtLimit}
-use Rattle.stores.specs.Meaning.{Pair, State, Fixed, Meaning, fresh}
+use Rattle.stores.specs.Meaning.{Pair, State, Fixed, fresh}
 use Rattle.stores.specs.Calls.{put_answer, put_after, meld_after, count_answer}
 
 abbrev pub one_at_most : List Pair

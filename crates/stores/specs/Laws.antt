@@ -3,7 +3,7 @@ use Rattle.std.specs.Prelude.{◌≡◌, ℕ, ◌+◌, ◌<◌, ◌≤◌, Bool,
 use Rattle.std.specs.List.{AllByRecursion as All}
 use Rattle.elements.specs.declared.entries.Entry.{Entry}
 use Rattle.elements.specs.Order.{precedes_by, stamp_of}
-use Rattle.stores.specs.SortedLists.{merge, insert, has, without, tally, Sorted}
+use Rattle.stores.specs.SortedLists.{merge, insert, without, tally, Sorted}
 use Rattle.stores.specs.Meaning.{State, list_of, live}
 use Rattle.stores.specs.Calls.{put_after, take_after, meld_after, cancel_after, front, rest, queue_with}
 

@@ -13,7 +13,7 @@ use Rattle.elements.specs.Elements.{event_le, line_le}
 use Rattle.machine.specs.declared.records.RecordKind.TheVariants.{Finish, Withdrawn as is-withdrawn}
 use Rattle.machine.specs.Machine.{Machine, with_cut, with_events, with_lines, with_instant, with_refusal, listed, tell, mark, branch, halted, strand, as_is}
 use Rattle.machine.specs.Puts.{Tried, try}
-use Rattle.machine.specs.Step.{finish_event, its_entry, cancel_event, take_event, started, start, at_limit, turned_away, waited, wait, enter_by, enter, take_line, line, start_by, start_front, release, free_bench, leave_by, leave, finish, withdraw_by, withdraw, fill_by, fill_one, fill, stays_open, close_into, close_by, close, react, due_event, step_by, step}
+use Rattle.machine.specs.Step.{finish_event, its_entry, cancel_event, take_event, started, start, at_limit, turned_away, waited, wait, enter_by, enter, take_line, line, start_by, start_front, release, free_bench, leave_by, leave, finish, withdraw_by, fill_by, fill_one, fill, stays_open, close_into, close_by, react, due_event, step_by, step}
 
 abbrev Calm : (Machine → Machine) → Type 0
 Calm f = (m : Machine) → m.refusal ≡ None → (f m).refusal ≡ None

@@ -1,11 +1,11 @@
 -- A run that is going on: the calls so far lead from a to b, and what is left to do from b by G is what F does from a.
-use Rattle.std.proofs.Common.{◌≡◌, ℕ, ◌+◌, ◌⊎◌, List, [], ◌∷◌, ◌++◌, Some, None, Option, sym, refl, ap, ◌∙◌, subst, inl, inr, arith}
+use Rattle.std.proofs.Common.{◌≡◌, ℕ, ◌+◌, ◌⊎◌, List, [], ◌∷◌, ◌++◌, Some, Option, sym, refl, ap, ◌∙◌, subst, inl, inr, arith}
 use Rattle.machine.specs.declared.records.StoreName.{StoreName}
 use Rattle.machine.specs.declared.records.StoreName.TheVariants.{Events, Orders}
 use Rattle.machine.specs.Machine.{Machine, with_cut}
 use Rattle.machine.specs.Puts.{stopped, stopped_by}
 use Rattle.outcomes.specs.Simulation.{Simulation, Takes, Earlier, no_takes, plus, machine_of, and_takes, cells, uses, issued, entries_in}
-use Rattle.outcomes.specs.Outcomes.{Put, up, later, Rooms, Counted, Agreed, Departed, Outcome, Enough}
+use Rattle.outcomes.specs.Outcomes.{Put, up, later, Rooms, Counted, Agreed, Departed, Enough}
 use Rattle.outcomes.proofs.Sequences.{later_append, later_up, rooms_append, rooms_cells, takes_twice, counted_then}
 use Rattle.outcomes.proofs.Onwards.{no_takes_more}
 use Rattle.outcomes.proofs.Cells.{none_left}

@@ -1,37 +1,23 @@
 -- The lines of a script, one after the other.
-use Rattle.std.proofs.Common.{◌≡◌, ℕ, ◌+◌, Bool, true, false, ltb, ◌⊎◌, List, [], ◌∷◌, ◌++◌, length, Some, None, Ok, Err, Option, Result, sym, refl, ap, ◌∙◌, subst, inl, inr, arith}
+use Rattle.std.proofs.Common.{◌≡◌, ℕ, ◌+◌, List, ◌∷◌, Some, None, Ok, Err, Option, Result, refl, ap, ◌∙◌, arith}
 use Rattle.elements.specs.declared.events.Event.{Event}
-use Rattle.elements.specs.declared.lines.LineEntry.{LineEntry}
 use Rattle.elements.specs.Elements.{event_le}
 use Rattle.stores.specs.declared.refusals.Refusal.{Refusal}
-use Rattle.stores.specs.Meaning.{Meaning}
-use Rattle.machine.specs.declared.networks.Network.{Network}
 use Rattle.machine.specs.declared.forms.Form.{Form}
 use Rattle.machine.specs.declared.forms.Form.TheVariants.{Station, Order, Withdraw, Close, End}
 use Rattle.machine.specs.declared.forms.FormRefusal.{FormRefusal}
-use Rattle.machine.specs.declared.forms.FormRefusal.TheVariants.{OutOfRange, OutOfPlace}
 use Rattle.machine.specs.declared.forms.ScriptRefusal.{ScriptRefusal}
-use Rattle.machine.specs.declared.forms.ScriptRefusal.TheVariants.{Form as form-refused}
-use Rattle.machine.specs.declared.records.Record.{Record}
 use Rattle.machine.specs.declared.records.Fault.{Fault}
 use Rattle.machine.specs.declared.records.StoreName.{StoreName}
 use Rattle.machine.specs.declared.records.StoreName.TheVariants.{Events, Orders}
-use Rattle.machine.specs.Machine.{Machine, Bounds, with_cut, with_events, with_refusal, listed, refuse, branch, is_some, as_is, start_machine}
-use Rattle.machine.specs.Puts.{Tried, try, stopped, stopped_by}
-use Rattle.machine.specs.Step.{due_event, steps}
-use Rattle.machine.specs.Forms.{form, form_by, form_refusal, accept, announced, ordered, new_order, event_at, in_range, checked, names_declared}
-use Rattle.machine.specs.Calls.{Call, a_form, calls, is_stopped}
-use Rattle.machine.specs.Script.{read_line, line_by, needs_end, needs_end_by, read_lines, read_script, run, run_by, perform}
-use Rattle.machine.specs.Reading.{read_form}
-use Rattle.outcomes.specs.Simulation.{Simulation, Takes, Earlier, machine_of, and_takes, cells}
-use Rattle.outcomes.specs.Outcomes.{Counted, Agreed, Departed, Outcome}
-use Rattle.simulations.specs.Writes.{simulation}
-use Rattle.simulations.specs.Drafts.{draft, as_line}
-use Rattle.machine_laws.specs.Runs.{after}
-use Rattle.machine_laws.proofs.TimedCalls.{runs_end}
-use Rattle.whole_runs.specs.Runs.{Run, RunAgreed, RunDeparted}
-use Rattle.whole_runs.specs.Records.{over}
-use Rattle.whole_runs.proofs.Going.{Going, going_as, going_ends, going_on, going_departs}
+use Rattle.machine.specs.Machine.{Machine, with_cut, with_events, with_refusal, listed, refuse}
+use Rattle.machine.specs.Puts.{Tried, try, stopped_by}
+use Rattle.machine.specs.Forms.{form, form_by, form_refusal, accept, announced, ordered, new_order, event_at}
+use Rattle.machine.specs.Script.{read_line, read_lines, read_script, run, run_by}
+use Rattle.outcomes.specs.Simulation.{Simulation, Earlier, machine_of, and_takes}
+use Rattle.outcomes.specs.Outcomes.{Counted}
+use Rattle.whole_runs.specs.Runs.{Run, RunAgreed}
+use Rattle.whole_runs.proofs.Going.{Going}
 
 never : {A : Type 0} → ◌≡◌ {A = ℕ} 0 1 → A
 never z = absurd (omega (arith, z))

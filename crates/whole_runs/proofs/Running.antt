@@ -1,14 +1,12 @@
 -- The steps of a run, one after the other.
-use Rattle.std.proofs.Common.{◌≡◌, ℕ, zero, suc, ◌+◌, List, [], ◌∷◌, ◌++◌, length, take, Some, None, Option, sym, refl, ap, ◌∙◌, subst, arith}
+use Rattle.std.proofs.Common.{◌≡◌, ℕ, zero, suc, Some, None, Option, refl, ap, arith}
 use Rattle.elements.specs.declared.events.Event.{Event}
 use Rattle.machine.specs.declared.forms.ScriptRefusal.{ScriptRefusal}
 use Rattle.machine.specs.declared.records.Fault.{Fault}
 use Rattle.machine.specs.declared.records.StoreName.{StoreName}
-use Rattle.machine.specs.Machine.{Machine, with_cut}
+use Rattle.machine.specs.Machine.{Machine}
 use Rattle.machine.specs.Puts.{stopped, stopped_by}
 use Rattle.machine.specs.Step.{due_by, due_event, next_event, step, steps_by, steps}
-use Rattle.outcomes.specs.Simulation.{Simulation, Earlier, machine_of}
-use Rattle.simulations.specs.Calls.{due_in}
 use Rattle.whole_runs.proofs.Calm.{calm_step}
 
 -- nothing is due after a fault, so that steps change nothing

@@ -1,5 +1,5 @@
 -- One step more of a run.
-use Rattle.std.proofs.Common.{◌≡◌, ℕ, zero, suc, ◌+◌, ◌⊎◌, List, [], ◌∷◌, ◌++◌, length, take, Some, None, Option, sym, refl, ap, ◌∙◌, subst, inl, inr, arith}
+use Rattle.std.proofs.Common.{◌≡◌, ℕ, suc, ◌+◌, ◌⊎◌, List, [], ◌++◌, take, Some, None, Option, sym, refl, ap, ◌∙◌, inl, inr, arith}
 use Rattle.std.proofs.lemmas.List.{append_assoc, append-nil}
 use Rattle.elements.specs.declared.events.Event.{Event}
 use Rattle.stores.specs.Meaning.{list_of}
@@ -13,12 +13,12 @@ use Rattle.machine.specs.Machine.{Machine, with_cut}
 use Rattle.machine.specs.Puts.{stopped, stopped_by}
 use Rattle.machine.specs.Step.{due_by, due_event, step, step_by, steps}
 use Rattle.outcomes.specs.Simulation.{Simulation, Takes, Earlier, machine_of, and_takes, store_of, cells, uses, issued}
-use Rattle.outcomes.specs.Outcomes.{Agreed, Departed, Outcome, later}
+use Rattle.outcomes.specs.Outcomes.{Agreed, Departed}
 use Rattle.outcomes.proofs.Cells.{later_none}
 use Rattle.simulations.specs.Calls.{due_in}
 use Rattle.whole_runs.specs.Runs.{Run, RunAgreed, RunDeparted}
 use Rattle.whole_runs.specs.Records.{over}
-use Rattle.whole_runs.proofs.Going.{Going, going_as, going_ends, going_on, going_departs, agreed_moved, departed_moved}
+use Rattle.whole_runs.proofs.Going.{Going, going_ends, going_on, going_departs, agreed_moved, departed_moved}
 use Rattle.whole_runs.proofs.Running.{steps_rest, steps_more, stopped_rests}
 
 -- The outcome of a step, seen over the records of the run: vs has the records that were written after the first u.

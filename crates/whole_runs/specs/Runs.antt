@@ -1,6 +1,6 @@
 -- A whole run over two real stores, told by the machine. F is what the machine makes of the script: its state at the end,
 -- and the number of the line where reading stopped.
-use Rattle.std.specs.Prelude.{◌≡◌, ℕ, Bool, true, false, ◌⊎◌, List, Some, None, Option}
+use Rattle.std.specs.Prelude.{◌≡◌, ℕ, ◌⊎◌, List, Some, Option}
 use Rattle.machine.specs.declared.records.StoreName.{StoreName}
 use Rattle.machine.specs.Machine.{Machine, with_cut}
 use Rattle.machine.specs.Puts.{stopped_by}

@@ -4,7 +4,6 @@ use lib.Seq.{set-get_or}
 use Rattle.elements.specs.declared.events.EventKind.{EventKind}
 use Rattle.elements.specs.declared.events.EventKind.TheVariants.{Withdraw}
 use Rattle.machine.specs.declared.networks.Network.{Network}
-use Rattle.machine.specs.declared.networks.Order.{Order}
 use Rattle.machine.specs.declared.networks.OrderState.{OrderState}
 use Rattle.machine.specs.declared.networks.OrderState.TheVariants.{NotYet, Waiting, InService, Done, Away, Withdrawn, Stranded}
 use Rattle.machine.specs.declared.records.RecordKind.TheVariants.{Missed as is-missed}

@@ -1,4 +1,4 @@
-use Rattle.std.proofs.Common.{ℕ, Some, None, Option, refl, ap, ◌∙◌, arith}
+use Rattle.std.proofs.Common.{Some, None, refl, arith}
 use Rattle.machine.specs.declared.forms.Form.TheVariants.{Close as a-closing}
 use Rattle.elements.specs.declared.events.EventKind.TheVariants.{Close}
 use Rattle.machine.specs.Forms.{announced}

@@ -1,4 +1,4 @@
-use Rattle.std.proofs.Common.{ℕ, Some, None, Option, refl, ap, ◌∙◌, arith}
+use Rattle.std.proofs.Common.{ℕ, Some, None, Option, refl, ap, ◌∙◌}
 use Rattle.machine.specs.declared.forms.Form.TheVariants.{Station}
 use Rattle.machine.specs.Network.{with_new_station}
 use Rattle.machine.specs.Forms.{new_station}

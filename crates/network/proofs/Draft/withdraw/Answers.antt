@@ -1,4 +1,4 @@
-use Rattle.std.proofs.Common.{ℕ, Some, None, Option, refl, ap, ◌∙◌, arith}
+use Rattle.std.proofs.Common.{Some, None, refl, arith}
 use Rattle.machine.specs.declared.forms.Form.TheVariants.{Withdraw as a-withdrawal}
 use Rattle.elements.specs.declared.events.EventKind.TheVariants.{Withdraw}
 use Rattle.machine.specs.Forms.{announced}

@@ -1,5 +1,5 @@
-use Rattle.std.proofs.Common.{sym, refl, ◌∙◌, arith}
-use Rattle.simulations.proofs.Stepping.{due_is, took_due, due_fit, taken_fit, step_rests, step_happens}
+use Rattle.std.proofs.Common.{sym, refl, ◌∙◌}
+use Rattle.simulations.proofs.Stepping.{took_due, due_fit, taken_fit, step_rests, step_happens}
 use Rattle.workshop.proofs.Workshop.advance.Goals as goal
 
 pub react-requires : goal.react-requires

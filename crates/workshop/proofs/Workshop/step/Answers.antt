@@ -1,4 +1,4 @@
-use Rattle.std.proofs.Common.{sym, refl, ap, ◌∙◌, arith}
+use Rattle.std.proofs.Common.{refl, ap, ◌∙◌}
 use Rattle.machine.specs.Step.{step, told_by}
 use Rattle.outcomes.proofs.Cells.{enough_suffice}
 use Rattle.workshop.proofs.Workshop.step.Goals as goal

@@ -1,4 +1,4 @@
-use Rattle.std.proofs.Common.{sym, refl, ap, ◌∙◌, arith}
+use Rattle.std.proofs.Common.{refl, ap, ◌∙◌, arith}
 use Rattle.outcomes.specs.Simulation.{Control}
 use Rattle.stores.proofs.Answering.{unchanged_over}
 use Rattle.machine.specs.declared.records.RecordKind.TheVariants.{Withdrawn, Missed}
@@ -6,7 +6,7 @@ use Rattle.machine.specs.Network.{freed}
 use Rattle.simulations.specs.Writes.{with_network, one_more, noted}
 use Rattle.simulations.proofs.Fitting.{state_fit}
 use Rattle.simulations.proofs.Withdrawing.{withdraw_waiting, withdraw_missed, withdraw_serving, interrupted_fit, interrupted_bench, interrupted_used, interrupted_place}
-use Rattle.workshop.proofs.Pulling.{waited, served, was_missed, waited_left, served_left, missed_left, IsMissed}
+use Rattle.workshop.proofs.Pulling.{waited, served, was_missed, waited_left, served_left, missed_left}
 use Rattle.workshop.proofs.Workshop.withdraw.Goals as goal
 
 pub returns-in-FromLine : goal.returns-in-FromLine

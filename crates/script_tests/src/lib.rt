@@ -184,13 +184,16 @@ mod tests {
     #[test]
     fn lines_are_parts_of_the_script(rt: HostRuntime) {
         let first = first_line(b"(end 9)\n\nlast");
-        assert!(rt; first.bytes == b"(end 9)");
-        assert!(rt; first.rest == b"\nlast");
+        assert!(rt; first.bytes == b"(end 9)".as_slice());
+        assert!(rt; first.rest == b"\nlast".as_slice());
         let second = first_line(first.rest);
         assert!(rt; second.bytes.is_empty());
-        assert!(rt; second.rest == b"last");
+        assert!(rt; second.rest == b"last".as_slice());
         let third = first_line(second.rest);
-        assert!(rt; third.bytes == b"last", "the last line may lack its end");
+        assert!(rt;
+            third.bytes == b"last".as_slice(),
+            "the last line may lack its end"
+        );
         assert!(rt; third.rest.is_empty());
         assert!(rt;
             first_line(b"last\n").rest.is_empty(),

@@ -314,5 +314,5 @@ fn just_enough_bytes(rt: HostRuntime) {
         line: 1,
     };
     assert!(rt; write_line(&line, &mut buffer).is_ok());
-    assert_eq!(rt; &buffer[..21], b"(refused 4 (line 1))\n");
+    assert_eq!(rt; &buffer[..21], b"(refused 4 (line 1))\n".as_slice());
 }

@@ -5,6 +5,7 @@ usage: python3 tools/respell.py [ROOT]     after the kit's port.py, once; ROOT i
 
 The names and their new spelling are the lines of respelled-names.txt. Names that Rattle makes (`c.put-answer` in an answer)
 keep their dashes, and so do strings and comments' words that are no name of the list.
+The library's `All` of today goes by index; the older one is its `AllByRecursion`, which is written out wherever it is meant.
 """
 
 import os
@@ -22,6 +23,7 @@ with open(os.path.join(HERE, "respelled-fields.txt"), encoding="utf-8") as f:
     FIELDS = set(f.read().split())
 
 TOKEN = re.compile(r"(\.?)(?<![\w'\-])([A-Za-z][\w']*(?:-[\w'*]+)+)(?![\w'\-])")
+ALL = re.compile(r"(?<![\w'.\-])All(?![\w'\-])")
 STRING = re.compile(r'b?"(?:[^"\\\n]|\\.)*"')
 
 
@@ -33,6 +35,15 @@ def respelled(text, made):
         return dot + NAMES[name]
 
     return TOKEN.sub(one, text)
+
+
+def recursive_all(text):
+    """`AllByRecursion` by its own name, in a file that brought it in as `All`."""
+    if "AllByRecursion as All" not in text:
+        return text
+    text = text.replace("AllByRecursion as All", "AllByRecursion")
+    lines = text.splitlines(True)
+    return "".join(line if line.lstrip().startswith(("--", "//", "use ", "ghost use ")) else ALL.sub("AllByRecursion", line) for line in lines)
 
 
 def outside_strings(text):
@@ -54,11 +65,11 @@ def main():
                 with open(path, encoding="utf-8") as f:
                     old = f.read()
                 made = parts[1] == "proofs" and len(parts) > 3
-                new = respelled(old, made)
+                new = recursive_all(respelled(old, made))
             elif name.endswith(".rt"):
                 with open(path, encoding="utf-8") as f:
                     old = f.read()
-                new = outside_strings(old)
+                new = recursive_all(outside_strings(old))
             else:
                 continue
             if new != old:

@@ -1,6 +1,6 @@
 -- What counts of a joining is the joining of what counts.
 use Rattle.std.proofs.Common.{◌≡◌, ℕ, Bool, true, false, cond, ◌⊎◌, List, [], ◌∷◌, sym, refl, ap, ◌∙◌, inl, inr}
-use Rattle.std.specs.List.{AllByRecursion as All}
+use Rattle.std.specs.List.{AllByRecursion}
 use Rattle.std.proofs.ByRecursion.{All-weaker}
 use Rattle.std.proofs.lemmas.Bool.{cases_Bool, both_ways}
 use Rattle.elements.specs.declared.entries.Entry.{Entry}
@@ -13,15 +13,15 @@ use Rattle.cancelled.proofs.Keeping.{keep_yes, keep_no, kept_nil, all_kept}
 
 module _ {T : Type 0} (before : Entry T → Entry T → Bool) where
   -- what is before all of one list, or not behind any, comes first in the joining
-  first_right : (y : Entry T) (xs ys : List (Entry T)) → All (λ z. before y z ≡ true) xs → merge before xs (y ∷ ys) ≡ y ∷ merge before xs ys
+  first_right : (y : Entry T) (xs ys : List (Entry T)) → AllByRecursion (λ z. before y z ≡ true) xs → merge before xs (y ∷ ys) ≡ y ∷ merge before xs ys
   first_right y [] ys a = refl
   first_right y (x ∷ xs) ys a = take_right before x xs y ys a.0
 
-  first_left : (x : Entry T) (xs ys : List (Entry T)) → All (λ z. before z x ≡ false) ys → merge before (x ∷ xs) ys ≡ x ∷ merge before xs ys
+  first_left : (x : Entry T) (xs ys : List (Entry T)) → AllByRecursion (λ z. before z x ≡ false) ys → merge before (x ∷ xs) ys ≡ x ∷ merge before xs ys
   first_left x xs [] a = refl
   first_left x xs (y ∷ ys) a = take_left before x xs y ys a.0
 
-  leads : (x : Entry T) (xs : List (Entry T)) → All (λ y. before x y ≡ true) xs → Leads before x xs
+  leads : (x : Entry T) (xs : List (Entry T)) → AllByRecursion (λ y. before x y ≡ true) xs → Leads before x xs
   leads x [] a = tt
   leads x (y ∷ ys) a = a.0
 
@@ -50,7 +50,7 @@ module _ {T : Type 0} (before : Entry T → Entry T → Bool) where
             → kept marks (merge before (x ∷ xs) ys) ≡ merge before (kept marks (x ∷ xs)) (kept marks ys) → kept marks (merge before xs (y ∷ ys)) ≡ merge before (kept marks xs) (kept marks (y ∷ ys))
             → kept marks (merge before (x ∷ xs) (y ∷ ys)) ≡ merge before (kept marks (x ∷ xs)) (kept marks (y ∷ ys))
         go (inl a) u (inl v) r s =
-            let all : All (λ z. before y z ≡ true) (x ∷ xs) = (a, All-weaker _ _ (λ z h. law.transitive y x z a h) xs (front_before before stamp_of law x xs p)) in
+            let all : AllByRecursion (λ z. before y z ≡ true) (x ∷ xs) = (a, All-weaker _ _ (λ z h. law.transitive y x z a h) xs (front_before before stamp_of law x xs p)) in
             ap (kept marks) (take_right before x xs y ys a)
             ∙ keep_yes marks y (merge before (x ∷ xs) ys) v
             ∙ ap (λ l. y ∷ l) r
@@ -62,7 +62,7 @@ module _ {T : Type 0} (before : Entry T → Entry T → Bool) where
             ∙ r
             ∙ ap (merge before (kept marks (x ∷ xs))) (sym (keep_no marks y ys v))
         go (inr a) (inl u) v r s =
-            let all : All (λ z. before z x ≡ false) (y ∷ ys) = (a, All-weaker _ _ (λ z h. not_before x y z a h) ys (front_before before stamp_of law y ys q)) in
+            let all : AllByRecursion (λ z. before z x ≡ false) (y ∷ ys) = (a, All-weaker _ _ (λ z h. not_before x y z a h) ys (front_before before stamp_of law y ys q)) in
             ap (kept marks) (take_left before x xs y ys a)
             ∙ keep_yes marks x (merge before xs (y ∷ ys)) u
             ∙ ap (λ l. x ∷ l) s

@@ -1,6 +1,6 @@
 -- One list, and the entries of it that are not cancelled.
 use Rattle.std.proofs.Common.{◌≡◌, ℕ, suc, ◌+◌, ◌<◌, ◌≤◌, true, false, cond, eqb, ltb, ◌≢◌, ◌⊎◌, List, [], ◌∷◌, length, set, sym, refl, ap, ◌∙◌, inl, inr, arith}
-use Rattle.std.specs.List.{AllByRecursion as All}
+use Rattle.std.specs.List.{AllByRecursion}
 use Rattle.std.proofs.ByRecursion.{All-weaker}
 use Rattle.std.proofs.lemmas.List.{get_or-set_same, get_or-set_other}
 use Rattle.std.proofs.lemmas.Bool.Decides.{nat_tests}
@@ -26,7 +26,7 @@ module _ {T : Type 0} where
 
   -- marks that agree on the list keep the same of it
   abbrev pub Alike : List ℕ → List ℕ → List (Entry T) → Type 0
-  Alike marks new xs = All (λ (e : Entry T). queued new e.stamp ≡ queued marks e.stamp) xs
+  Alike marks new xs = AllByRecursion (λ (e : Entry T). queued new e.stamp ≡ queued marks e.stamp) xs
 
   pub kept_alike : (marks new : List ℕ) (xs : List (Entry T)) → Alike marks new xs → kept new xs ≡ kept marks xs
   unfolding kept
@@ -37,7 +37,7 @@ module _ {T : Type 0} where
   front_alike marks new [] a f = tt
   front_alike marks new (x ∷ xs) a f = a.0 ∙ f
 
-  others : (s : ℕ) (xs : List (Entry T)) → tally stamp_of xs s ≡ 0 → All (λ (e : Entry T). e.stamp ≢ s) xs
+  others : (s : ℕ) (xs : List (Entry T)) → tally stamp_of xs s ≡ 0 → AllByRecursion (λ (e : Entry T). e.stamp ≢ s) xs
   others s [] h = tt
   others s (x ∷ xs) h = (λ e. let t = eq-eqb x.stamp s e in grind (arith, nat_tests), others s xs (omega arith))
 
@@ -45,11 +45,11 @@ module _ {T : Type 0} where
   pub alike_other : (marks : List ℕ) (s v : ℕ) (xs : List (Entry T)) → tally stamp_of xs s ≡ 0 → Alike marks (set marks s v) xs
   alike_other marks s v xs h = All-weaker _ _ (λ e ne. ap (ltb 0) (get_or-set_other marks s e.stamp v 0 ne)) xs (others s xs h)
 
-  pub all_kept : (P : Entry T → Type 0) (marks : List ℕ) (xs : List (Entry T)) → All P xs → All P (kept marks xs)
+  pub all_kept : (P : Entry T → Type 0) (marks : List ℕ) (xs : List (Entry T)) → AllByRecursion P xs → AllByRecursion P (kept marks xs)
   unfolding kept
   all_kept P marks [] a = tt
   all_kept P marks (x ∷ xs) a =
-      elim (queued marks x.stamp) as (λ b. All P (cond b (x ∷ kept marks xs) (kept marks xs))) [ true ↦ (a.0, all_kept P marks xs a.1) | false ↦ all_kept P marks xs a.1 ]
+      elim (queued marks x.stamp) as (λ b. AllByRecursion P (cond b (x ∷ kept marks xs) (kept marks xs))) [ true ↦ (a.0, all_kept P marks xs a.1) | false ↦ all_kept P marks xs a.1 ]
 
   pub tally_kept : (marks : List ℕ) (xs : List (Entry T)) (k : ℕ) → tally stamp_of (kept marks xs) k ≤ tally stamp_of xs k
   unfolding kept

@@ -1,6 +1,6 @@
 -- The layer at rest: its meaning is well-formed, and its questions are answered by the marks, the counts and the heap.
 use Rattle.std.proofs.Common.{◌≡◌, ℕ, ◌+◌, ◌<◌, ◌≤◌, Bool, cond, ◌||◌, eqb, leb, ◌≢◌, List, [], ◌∷◌, map, length, get_or, Ok, Err, sum_by, sym, refl, ap, ◌∙◌, inl, inr, arith}
-use Rattle.std.specs.List.{AllByRecursion as All}
+use Rattle.std.specs.List.{AllByRecursion}
 use Rattle.std.proofs.ByRecursion.{All-weaker}
 use Rattle.std.proofs.lemmas.List.{length-map}
 use Rattle.std.proofs.lemmas.List.Sums.{sum_by-cons}
@@ -20,7 +20,7 @@ use Rattle.cancelled.proofs.Joining.{kept_sorted}
 use Rattle.cancelled.proofs.Places.{all_at, map_at, sum_at, sum_two, replicate_at}
 use Rattle.cancelled.proofs.Marking.{kept_at, live_parted, all_empty}
 
-sorted_all : {T : Type 0} (before : Entry T → Entry T → Bool) (law : Strict before stamp_of) (marks : List ℕ) (xss : List (List (Entry T))) → All (Sorted before) xss → All (Sorted before) (map (kept marks) xss)
+sorted_all : {T : Type 0} (before : Entry T → Entry T → Bool) (law : Strict before stamp_of) (marks : List ℕ) (xss : List (List (Entry T))) → AllByRecursion (Sorted before) xss → AllByRecursion (Sorted before) (map (kept marks) xss)
 sorted_all before law marks [] a = tt
 sorted_all before law marks (xs ∷ xss) a = (kept_sorted before law marks xs a.0, sorted_all before law marks xss a.1)
 

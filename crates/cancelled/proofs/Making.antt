@@ -1,6 +1,6 @@
 -- The layer over a heap with nothing put yet.
 use Rattle.std.proofs.Common.{◌≡◌, ℕ, zero, suc, ◌+◌, Bool, cond, eqb, List, [], ◌∷◌, map, length, get_or, replicate, sum_by, sym, refl, ap, ◌∙◌, subst, arith}
-use Rattle.std.specs.List.{AllByRecursion as All}
+use Rattle.std.specs.List.{AllByRecursion}
 use Rattle.std.proofs.lemmas.List.{length-replicate}
 use Rattle.std.proofs.lemmas.List.Sums.{sum_by-cons}
 use Rattle.std.proofs.lemmas.Bool.{ne_eqb}
@@ -19,7 +19,7 @@ module _ (T : Type 0) where
   lengths_none zero = refl
   lengths_none (suc n) = ap (λ l. 0 ∷ l) (lengths_none n)
 
-  fronts_none : (marks : List ℕ) (n : ℕ) → All (Front {T = T} marks) (replicate n [])
+  fronts_none : (marks : List ℕ) (n : ℕ) → AllByRecursion (Front {T = T} marks) (replicate n [])
   fronts_none marks zero = tt
   fronts_none marks (suc n) = (tt, fronts_none marks n)
 
@@ -52,7 +52,7 @@ module _ {T : Type 0} where
         within = λ k. omega (arith, blank_at k);
         counted = ec ∙ lengths_none T 32 ∙ ap (map length) (sym kept_lists);
         tied = λ q k near. ap (λ l. tally stamp_of (get_or l q []) k) kept_lists ∙ ap (λ l. tally stamp_of l k) (replicate_at 32 [] q) ∙ sym (ap (λ v. cond (eqb v (q + 1)) 1 0) (blank_at k) ∙ ap (λ v. cond v 1 0) (ne_eqb 0 (q + 1) (λ z. omega (arith, z))));
-        fronts = subst (All (Front marks)) (sym (no_entries m f fit.unused)) (fronts_none T marks 32);
+        fronts = subst (AllByRecursion (Front marks)) (sym (no_entries m f fit.unused)) (fronts_none T marks 32);
       };
     }
 

@@ -1,6 +1,6 @@
 -- All queues: what the marks tell of the entries in them.
 use Rattle.std.proofs.Common.{◌≡◌, ℕ, zero, suc, ◌+◌, ◌<◌, ◌≤◌, cond, eqb, ◌≢◌, ◌⊎◌, List, [], ◌∷◌, map, length, get_or, set, sum_by, sym, refl, ap, ◌∙◌, inl, inr, arith}
-use Rattle.std.specs.List.{AllByRecursion as All}
+use Rattle.std.specs.List.{AllByRecursion}
 use Rattle.std.proofs.lemmas.List.{length-set, get_or-set_same, get_or-set_other}
 use Rattle.std.proofs.lemmas.List.Sums.{sum_by-cons}
 use Rattle.std.proofs.lemmas.Bool.Decides.{nat_tests}
@@ -32,7 +32,7 @@ module _ {T : Type 0} where
   live_parted marks (xs ∷ xss) = omega (arith, sum_by-cons length xs xss, sum_by-cons length (kept marks xs) (map (kept marks) xss), sum_by-cons (cancelled marks) xs xss, length_parted marks xs, live_parted marks xss)
 
   -- where nothing counts nothing is
-  pub all_empty : (marks : List ℕ) (xss : List (List (Entry T))) → All (Front marks) xss → sum_by length (map (kept marks) xss) ≡ 0 → sum_by length xss ≡ 0
+  pub all_empty : (marks : List ℕ) (xss : List (List (Entry T))) → AllByRecursion (Front marks) xss → sum_by length (map (kept marks) xss) ≡ 0 → sum_by length xss ≡ 0
   all_empty marks [] a h = omega arith
   all_empty marks (xs ∷ xss) a h =
       let e = sum_by-cons length xs xss in

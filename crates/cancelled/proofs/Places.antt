@@ -1,10 +1,10 @@
 -- Lists where one place changes.
 use Rattle.std.proofs.Common.{◌≡◌, ℕ, zero, suc, ◌+◌, ◌<◌, ◌≤◌, ◌≢◌, List, [], ◌∷◌, map, length, get_or, set, replicate, sum_by, sym, refl, ap, arith}
-use Rattle.std.specs.List.{AllByRecursion as All}
+use Rattle.std.specs.List.{AllByRecursion}
 use Rattle.std.proofs.lemmas.List.{length-set, get_or-set_other}
 use Rattle.std.proofs.lemmas.List.Sums.{sum_by-cons, sum_by-set}
 
-pub all_at : {X : Type 0} (P : X → Type 0) (d : X) → P d → (xs : List X) (q : ℕ) → All P xs → P (get_or xs q d)
+pub all_at : {X : Type 0} (P : X → Type 0) (d : X) → P d → (xs : List X) (q : ℕ) → AllByRecursion P xs → P (get_or xs q d)
 all_at P d e [] q a = e
 all_at P d e (x ∷ xs) zero a = a.0
 all_at P d e (x ∷ xs) (suc q) a = all_at P d e xs q a.1
@@ -48,11 +48,11 @@ module _ {X Y : Type 0} (f g : X → Y) (d : X) where
 
 -- elsewhere Q holds where P held
 module _ {X : Type 0} (P Q : X → Type 0) (d : X) where
-  all_alike : (xs : List X) → ((p : ℕ) → P (get_or xs p d) → Q (get_or xs p d)) → All P xs → All Q xs
+  all_alike : (xs : List X) → ((p : ℕ) → P (get_or xs p d) → Q (get_or xs p d)) → AllByRecursion P xs → AllByRecursion Q xs
   all_alike [] h a = tt
   all_alike (x ∷ xs) h a = (h 0 a.0, all_alike xs (λ p. h (suc p)) a.1)
 
-  pub all_changed : (xs : List X) (q : ℕ) (y : X) → Q y → ((p : ℕ) → p ≢ q → P (get_or xs p d) → Q (get_or xs p d)) → All P xs → All Q (set xs q y)
+  pub all_changed : (xs : List X) (q : ℕ) (y : X) → Q y → ((p : ℕ) → p ≢ q → P (get_or xs p d) → Q (get_or xs p d)) → AllByRecursion P xs → AllByRecursion Q (set xs q y)
   all_changed [] q y e h a = tt
   all_changed (x ∷ xs) zero y e h a = (e, all_alike xs (λ p. h (suc p) (λ k. omega (arith, k))) a.1)
   all_changed (x ∷ xs) (suc q) y e h a = (h 0 (λ k. omega (arith, k)) a.0, all_changed xs q y e (λ p ne. h (suc p) (λ k. ne (omega (arith, k)))) a.1)

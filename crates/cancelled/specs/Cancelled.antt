@@ -1,7 +1,7 @@
 -- What a heap means when some of its entries are cancelled. `marks` has for each stamp its queue plus 1, or 0 when it is
 -- in none.
 use Rattle.std.specs.Prelude.{◌≡◌, ℕ, ◌+◌, ◌<◌, ◌≤◌, Bool, true, false, cond, List, [], ◌∷◌, map, length, Ok, Err, sum_by, Result, ◌==◌, ◌≢◌, nat_lt, slice_index, slice_index_or}
-use Rattle.std.specs.List.{AllByRecursion as All}
+use Rattle.std.specs.List.{AllByRecursion}
 use Rattle.elements.specs.declared.entries.Entry.{Entry}
 use Rattle.elements.specs.Order.{stamp_of}
 use Rattle.stores.specs.declared.refusals.Unfit.{Unfit}
@@ -70,7 +70,7 @@ pub record Marked {T : Type 0} (marks counts : List ℕ) (xss : List (List (Entr
   pub counted : counts ≡ map length (map (kept marks) xss)
   -- a stamp has the mark of queue q where an entry of that queue has it
   pub tied : (q k : ℕ) → q < 32 → tally stamp_of (slice_index_or (map (kept marks) xss) q []) k ≡ cond (slice_index marks k == q + 1) 1 0
-  pub fronts : All (Front marks) xss
+  pub fronts : AllByRecursion (Front marks) xss
 
 -- the layer of height h over a heap that means m and is sound where Below holds
 pub record Over {T : Type 0} (le : T → T → Bool) (Below : Type 0) (marks counts : List ℕ) (h : ℕ) (m : Meaning T) : Type 0 where

@@ -3,7 +3,7 @@ use Rattle.std.proofs.Common.{◌≡◌, ℕ, ◌+◌, ◌<◌, ◌≤◌, cond,
 use Rattle.std.proofs.lemmas.List.{map-set, set-set}
 use Rattle.std.proofs.ByRecursion.{All-set}
 use Rattle.std.proofs.lemmas.List.Sums.{sum_by-set}
-use Rattle.std.specs.List.{AllByRecursion as All}
+use Rattle.std.specs.List.{AllByRecursion}
 use Rattle.elements.specs.declared.entries.Entry.{Entry}
 use Rattle.elements.specs.Order.{stamp_of}
 use Rattle.stores.specs.SortedLists.{tally}
@@ -48,7 +48,7 @@ module _ {T K : Type 0} (F : Form T K) (lawful : Lawful F) {h : Heads} {ls : Lis
     apart : (k : ℕ) → 0 < sum_by (λ x. uses x k) (set s.trees q leaf) → uses (get_or s.trees q leaf) k + times s.idle k ≡ 0
     apart k p = omega (arith, sum_by-set (λ x. uses x k) s.trees q leaf leaf (within F lawful s q near), s.cells k)
 
-    others : All (Stored F ls' es') (set s.trees q leaf)
+    others : AllByRecursion (Stored F ls' es') (set s.trees q leaf)
     others = all_framed F ls ls' es es' (set s.trees q leaf) (omega (arith, c.long)) (omega (arith, c.wide)) (λ k p. c.links k (apart k p)) (λ k d p. c.entries k d (apart k p)) (All-set (Stored F ls es) s.trees q leaf (leaf_stored F lawful) s.stored)
 
     queue_is : ◌≡◌ {A = Queue} (record { root = root'; count = count' }) (queue_of u)
@@ -60,7 +60,7 @@ module _ {T K : Type 0} (F : Form T K) (lawful : Lawful F) {h : Heads} {ls : Lis
       idle = idle';
       many = length-set s.trees q u ∙ s.many;
       queues = (λ j. set (s.queues j) q (queue_is j)) ∙ sym (map-set queue_of s.trees q u);
-      stored = subst (All (Stored F ls' es')) (set-set s.trees q leaf u) (All-set (Stored F ls' es') (set s.trees q leaf) q u c.stored others);
+      stored = subst (AllByRecursion (Stored F ls' es')) (set-set s.trees q leaf u) (All-set (Stored F ls' es') (set s.trees q leaf) q u c.stored others);
       free = free-is;
       chained = c.chained;
       cells = λ k. omega (arith, sum_by-set (λ x. uses x k) s.trees q u leaf (within F lawful s q near), s.cells k, c.cells k);

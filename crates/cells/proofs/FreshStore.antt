@@ -1,7 +1,7 @@
 -- A fresh store, for any form of heap: 32 empty queues, every cell idle.
 use Rattle.std.proofs.Common.{◌≡◌, ℕ, zero, suc, List, [], ◌∷◌, map, length, replicate, sum_by, Option, refl, ap, ◌∙◌, arith}
 use Rattle.std.proofs.lemmas.List.Sums.{sum_by-cons}
-use Rattle.std.specs.List.{AllByRecursion as All}
+use Rattle.std.specs.List.{AllByRecursion}
 use Rattle.elements.specs.declared.entries.Entry.{Entry}
 use Rattle.elements.specs.Order.{stamp_of}
 use Rattle.stores.specs.SortedLists.{tally}
@@ -14,7 +14,7 @@ use Rattle.cells.specs.declared.heads.Heads.{Heads}
 use Rattle.cells.proofs.Soundness.{Lawful, leaf_stored, lists_are}
 use Rattle.cells.proofs.Changing.{Done, done_by}
 
-all_alike : {A : Type 0} (P : A → Type 0) (a : A) (n : ℕ) → P a → All P (replicate n a)
+all_alike : {A : Type 0} (P : A → Type 0) (a : A) (n : ℕ) → P a → AllByRecursion P (replicate n a)
 all_alike P a zero h = tt
 all_alike P a (suc n) h = (h, all_alike P a n h)
 

@@ -3,7 +3,7 @@ use Rattle.std.proofs.Common.{◌≡◌, ℕ, ◌+◌, ◌<◌, ◌≤◌, ltb, 
 use Rattle.std.proofs.lemmas.List.{get_or-set_other, map-set, set-set, set_comm}
 use Rattle.std.proofs.ByRecursion.{All-set}
 use Rattle.std.proofs.lemmas.List.Sums.{sum_by-set}
-use Rattle.std.specs.List.{AllByRecursion as All}
+use Rattle.std.specs.List.{AllByRecursion}
 use Rattle.elements.specs.declared.entries.Entry.{Entry}
 use Rattle.elements.specs.Order.{precedes_by, stamp_of}
 use Rattle.stores.specs.declared.refusals.Refusal.TheVariants.{QueueNumber, SameQueue}
@@ -63,7 +63,7 @@ module _ {T K : Type 0} (F : Form T K) (lawful : Lawful F) {h : Heads} {ls : Lis
           sum_after : (f : Tree (Entry T) → ℕ) → f leaf ≡ 0 → f m.tree ≡ f (get_or s.trees a leaf) + f (get_or s.trees b leaf) → sum_by f (set (set s.trees a m.tree) b leaf) ≡ sum_by f s.trees
           sum_after f z e = omega (arith, z, e, sum_by-set f s.trees a m.tree leaf in_a, sum_by-set f (set s.trees a m.tree) b leaf leaf (in_b m.tree), ap f (get_or-set_other s.trees a b m.tree leaf (λ z. differ (sym z))))
 
-          others : All (Stored F ls' es) (set (set s.trees a leaf) b leaf)
+          others : AllByRecursion (Stored F ls' es) (set (set s.trees a leaf) b leaf)
           others = all_framed F ls ls' es es (set (set s.trees a leaf) b leaf) (omega (arith, long)) (omega arith) (λ k p. m.others k (omega (arith, without_both (λ x. uses x k) refl, s.cells k, p))) (λ k d p. refl) (All-set (Stored F ls es) (set s.trees a leaf) b leaf (leaf_stored F lawful) (All-set (Stored F ls es) s.trees a leaf (leaf_stored F lawful) s.stored))
 
           placed : set (set (set s.trees a leaf) b leaf) a m.tree ≡ set (set s.trees a m.tree) b leaf
@@ -81,7 +81,7 @@ module _ {T K : Type 0} (F : Form T K) (lawful : Lawful F) {h : Heads} {ls : Lis
             idle = s.idle;
             many = length-set (set s.trees a m.tree) b leaf ∙ length-set s.trees a m.tree ∙ s.many;
             queues = (λ j. set (set (s.queues j) a (queue_is j)) b no_queue) ∙ ap (λ x. set x b no_queue) (sym (map-set queue_of s.trees a m.tree)) ∙ sym (map-set queue_of (set s.trees a m.tree) b leaf);
-            stored = subst (All (Stored F ls' es)) placed (All-set (Stored F ls' es) (set (set s.trees a leaf) b leaf) a m.tree m.stored_at.stored others);
+            stored = subst (AllByRecursion (Stored F ls' es)) placed (All-set (Stored F ls' es) (set (set s.trees a leaf) b leaf) a m.tree m.stored_at.stored others);
             free = s.free;
             chained = chain_framed F.none F.idle ls ls' s.idle (omega (arith, long)) (λ k p. m.others k (omega (arith, without_both (λ x. uses x k) refl, s.cells k, p))) s.chained;
             cells = λ k. omega (arith, s.cells k, sum_after (λ x. uses x k) refl (m.cells k));

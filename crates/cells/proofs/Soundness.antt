@@ -4,7 +4,7 @@ use lib.ListN.{length-map}
 use Rattle.std.proofs.lemmas.List.{get_or-map}
 use Rattle.std.proofs.ByRecursion.{All-get_or}
 use Rattle.std.proofs.lemmas.List.Sums.{sum_by-cons, get_or-le-sum_by}
-use Rattle.std.specs.List.{AllByRecursion as All}
+use Rattle.std.specs.List.{AllByRecursion}
 use Rattle.elements.specs.declared.entries.Entry.{Entry}
 use Rattle.elements.specs.Order.{precedes_by, stamp_of}
 use Rattle.stores.specs.SortedLists.{tally, Sorted}
@@ -43,7 +43,7 @@ sum_map f g h e (x ∷ xs) = omega (arith, sum_by-cons f (g x) (map g xs), sum_b
 
 module _ {T K : Type 0} (F : Form T K) where
   -- trees stay where their cells stay
-  pub all_framed : (ls ls' : List K) (es es' : List (Entry T)) (ts : List (Tree (Entry T))) → length ls ≤ length ls' → length es ≤ length es' → ((k : ℕ) → 0 < sum_by (λ t. uses t k) ts → get_or ls' k F.none ≡ get_or ls k F.none) → ((k : ℕ) (d : Entry T) → 0 < sum_by (λ t. uses t k) ts → get_or es' k d ≡ get_or es k d) → All (Stored F ls es) ts → All (Stored F ls' es') ts
+  pub all_framed : (ls ls' : List K) (es es' : List (Entry T)) (ts : List (Tree (Entry T))) → length ls ≤ length ls' → length es ≤ length es' → ((k : ℕ) → 0 < sum_by (λ t. uses t k) ts → get_or ls' k F.none ≡ get_or ls k F.none) → ((k : ℕ) (d : Entry T) → 0 < sum_by (λ t. uses t k) ts → get_or es' k d ≡ get_or es k d) → AllByRecursion (Stored F ls es) ts → AllByRecursion (Stored F ls' es') ts
   all_framed ls ls' es es' [] long wide same alike h = tt
   all_framed ls ls' es es' (t ∷ ts) long wide same alike h = (
     record {
@@ -58,14 +58,14 @@ module _ {T K : Type 0} (F : Form T K) where
     pub leaf_stored : {ls : List K} {es : List (Entry T)} → Stored F ls es leaf
     leaf_stored = record { linked = tt; held = tt; valid = lawful.valid_leaf }
 
-    pub lists_read : (ls : List K) (es : List (Entry T)) (n : ℕ) (ts : List (Tree (Entry T))) → sum_by size ts ≤ n → All (Stored F ls es) ts → map (λ (q : Queue). F.list (tree_at F.left F.right F.none ls es n q.root)) (map queue_of ts) ≡ map F.list ts
+    pub lists_read : (ls : List K) (es : List (Entry T)) (n : ℕ) (ts : List (Tree (Entry T))) → sum_by size ts ≤ n → AllByRecursion (Stored F ls es) ts → map (λ (q : Queue). F.list (tree_at F.left F.right F.none ls es n q.root)) (map queue_of ts) ≡ map F.list ts
     lists_read ls es n [] few h = refl
     lists_read ls es n (t ∷ ts) few h =
         let sum = sum_by-cons size t ts in
         ap (λ x. F.list x ∷ map (λ (q : Queue). F.list (tree_at F.left F.right F.none ls es n q.root)) (map queue_of ts)) (read_back F.left F.right F.link F.none lawful.left_is lawful.right_is ls es n t (omega (arith, sum)) h.0.linked h.0.held)
         ∙ ap (λ x. F.list t ∷ x) (lists_read ls es n ts (omega (arith, sum)) h.1)
 
-    all_sorted : (ls : List K) (es : List (Entry T)) (ts : List (Tree (Entry T))) → ((k : ℕ) → sum_by (λ t. tally stamp_of (F.list t) k) ts ≤ 1) → All (Stored F ls es) ts → All (Sorted (precedes_by F.le)) (map F.list ts)
+    all_sorted : (ls : List K) (es : List (Entry T)) (ts : List (Tree (Entry T))) → ((k : ℕ) → sum_by (λ t. tally stamp_of (F.list t) k) ts ≤ 1) → AllByRecursion (Stored F ls es) ts → AllByRecursion (Sorted (precedes_by F.le)) (map F.list ts)
     all_sorted ls es [] once h = tt
     all_sorted ls es (t ∷ ts) once h = (
       lawful.sorted t (λ k. omega (arith, once k, sum_by-cons (λ x. tally stamp_of (F.list x) k) t ts)) h.0.valid,
@@ -82,7 +82,7 @@ module _ {T K : Type 0} (F : Form T K) where
       pub formed : WellFormed F.le (meaning_of F h ls es)
       formed = record {
         queues = ap length lists_are ∙ length-map s.trees F.list ∙ s.many;
-        sorted = subst (All (Sorted (precedes_by F.le))) (sym lists_are) (all_sorted ls es s.trees (λ k. omega (arith, s.stamps k, one_at_most (ltb k h.next))) s.stored);
+        sorted = subst (AllByRecursion (Sorted (precedes_by F.le))) (sym lists_are) (all_sorted ls es s.trees (λ k. omega (arith, s.stamps k, one_at_most (ltb k h.next))) s.stored);
         stamps = λ k. subst (λ n. n ≤ cond (ltb k h.next) 1 0) (sym (ap (sum_by (λ xs. tally stamp_of xs k)) lists_are ∙ sum_map (λ xs. tally stamp_of xs k) F.list (λ t. tally stamp_of (F.list t) k) (λ t. refl) s.trees)) (s.stamps k);
         issued = s.issued;
         stored = omega (arith, live_is, s.total);

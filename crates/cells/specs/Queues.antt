@@ -1,6 +1,6 @@
 -- 32 heaps of one form and the idle cells, in two slices: when they are sound, and what they mean.
 use Rattle.std.specs.Prelude.{◌≡◌, ℕ, ◌+◌, ◌≤◌, cond, List, map, length, replicate, Some, None, Ok, Err, sum_by, Option, Result, nat_le, nat_lt, slice_index_or, slice_set}
-use Rattle.std.specs.List.{AllByRecursion as All}
+use Rattle.std.specs.List.{AllByRecursion}
 use Rattle.elements.specs.declared.entries.Entry.{Entry}
 use Rattle.elements.specs.Order.{stamp_of}
 use Rattle.stores.specs.declared.refusals.Refusal.{Refusal}
@@ -27,7 +27,7 @@ pub record Sound {T K : Type 0} (F : Form T K) (h : Heads) (ls : List K) (es : L
   pub idle : List ℕ
   pub many : length trees ≡ 32
   pub queues : h.queues ≡ map queue_of trees
-  pub stored : All (Stored F ls es) trees
+  pub stored : AllByRecursion (Stored F ls es) trees
   pub free : h.free ≡ first idle
   pub chained : Chained F.none F.idle ls idle
   -- no cell twice, and as many as there are

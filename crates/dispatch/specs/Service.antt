@@ -1,6 +1,6 @@
 -- The order in which a bench serves orders that wait: by urgency, then by due tick, then by their place in the list.
 use Rattle.std.specs.Prelude.{◌≡◌, ℕ, ◌+◌, Bool, true, List, [], ◌∷◌, map}
-use Rattle.std.specs.List.{AllByRecursion as All}
+use Rattle.std.specs.List.{AllByRecursion}
 use Rattle.elements.specs.declared.entries.Entry.{Entry}
 use Rattle.elements.specs.declared.lines.LineEntry.{LineEntry}
 use Rattle.elements.specs.Elements.{line_le}
@@ -19,7 +19,7 @@ insertion_sort before (x ∷ xs) = insert before x (insertion_sort before xs)
 -- each comes before all that follow it
 abbrev pub Ranked : {A : Type 0} → (A → A → Bool) → List A → Type 0
 Ranked before [] = Unit {0}
-Ranked before (x ∷ xs) = All (λ y. before x y ≡ true) xs × Ranked before xs
+Ranked before (x ∷ xs) = AllByRecursion (λ y. before x y ≡ true) xs × Ranked before xs
 
 abbrev pub elements_of : {T : Type 0} → List (Entry T) → List T
 elements_of es = map (λ e. e.element) es

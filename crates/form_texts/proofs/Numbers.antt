@@ -2,7 +2,7 @@
 use Rattle.std.proofs.Common.{◌≡◌, ℕ, zero, suc, ◌+◌, ◌-◌, ◌*◌, ◌/◌, ◌%◌, ◌^◌, ◌<◌, ◌≤◌, ◌⊎◌, List, [], ◌∷◌, ◌++◌, map, length, get_or, decimal, sym, refl, ap, ◌∙◌, inl, inr, append_assoc, append-nil, arith}
 use lib.Arith.{digits_div, digits_mod}
 use Rattle.std.specs.Int.Digits.{digits_of, number_from_digits_after, AllBelowBase}
-use Rattle.std.specs.List.{AllByRecursion as All}
+use Rattle.std.specs.List.{AllByRecursion}
 use Rattle.std.proofs.lemmas.Fmt.{decimal_digit, decimal-digits_of}
 use Rattle.std.proofs.lemmas.Int.Digits.{digits_of_step, all_below_base_digits_of, first_digits_of, number_digits_of}
 use Rattle.std.proofs.lemmas.List.{length-map}
@@ -32,7 +32,7 @@ read_glyphs n (d ∷ ds) =
     let e : n * 10 + (48 + d - 48) ≡ n * 10 + d = omega arith in
     ap (λ m. read_on m (map glyph ds)) e ∙ read_glyphs (n * 10 + d) ds
 
-glyphs_digits : (ds : List ℕ) → AllBelowBase 10 ds → All Digit (map glyph ds)
+glyphs_digits : (ds : List ℕ) → AllBelowBase 10 ds → AllByRecursion Digit (map glyph ds)
 glyphs_digits [] u = tt
 glyphs_digits (d ∷ ds) u = ((omega arith, omega (arith, u.0)), glyphs_digits ds u.1)
 
@@ -68,7 +68,7 @@ numeral_is n = go (cases_eq n 0)
         })
 
 -- and a numeral is that of its value: from the left, each digit is one more of the number so far
-digits_on : (n : ℕ) (cs : List ℕ) → 0 < n → All Digit cs → digits_of 10 (read_on n cs) ≡ digits_of 10 n ++ map digit_of cs
+digits_on : (n : ℕ) (cs : List ℕ) → 0 < n → AllByRecursion Digit cs → digits_of 10 (read_on n cs) ≡ digits_of 10 n ++ map digit_of cs
 digits_on n [] h d = sym (append-nil (digits_of 10 n))
 digits_on n (c ∷ cs) h d =
     let x = c - 48 in
@@ -80,7 +80,7 @@ digits_on n (c ∷ cs) h d =
     ∙ ap (λ l. l ++ map digit_of cs) step
     ∙ append_assoc (digits_of 10 n) (x ∷ []) (map digit_of cs)
 
-glyphs_of : (cs : List ℕ) → All Digit cs → map glyph (map digit_of cs) ≡ cs
+glyphs_of : (cs : List ℕ) → AllByRecursion Digit cs → map glyph (map digit_of cs) ≡ cs
 glyphs_of [] d = refl
 glyphs_of (c ∷ cs) d =
     let e : 48 + (c - 48) ≡ c = omega (arith, d.0.0) in

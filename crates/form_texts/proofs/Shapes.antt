@@ -1,6 +1,6 @@
 -- The machine's reader along a shape: words that stand as they are, with a numeral after each, and an end.
 use Rattle.std.proofs.Common.{◌≡◌, ℕ, suc, ◌+◌, ◌-◌, ◌*◌, Bool, true, false, eqb, ◌⊎◌, List, [], ◌∷◌, ◌++◌, map, length, Some, None, Option, sym, refl, ap, ◌∙◌, subst, inl, inr, append-nil, arith}
-use Rattle.std.specs.List.{AllByRecursion as All}
+use Rattle.std.specs.List.{AllByRecursion}
 use Rattle.std.proofs.lemmas.Bool.{cases_eq, eq-eqb, ne_eqb, eqb-true, eqb-false}
 use Rattle.std.proofs.lemmas.Bool.Decides.{nat_tests}
 use Rattle.scanner.specs.Numerals.{Digit, Numeral, read_on, value, Stop}
@@ -48,7 +48,7 @@ test_other b n = go (is_digit b) refl
 -- digits that were gone through, up to the rest
 pub record DigitsBefore (n : ℕ) (bs : List ℕ) (m : ℕ) (rest : List ℕ) : Type 0 where
   pub digits : List ℕ
-  pub each : All Digit digits
+  pub each : AllByRecursion Digit digits
   pub is : bs ≡ digits ++ rest
   pub number : m ≡ read_on n digits
 
@@ -67,7 +67,7 @@ more_split : (n : ℕ) (bs : List ℕ) → DigitsBefore n bs (more_digits n bs).
 more_split n [] = record { digits = []; each = tt; is = refl; number = refl }
 more_split n (b ∷ bs) = split_by n b bs (is_digit b) (digit_test b) (more_split (n * 10 + (b - 48)) bs)
 
-more_read : (n : ℕ) (ds rest : List ℕ) → All Digit ds → Stop rest → more_digits n (ds ++ rest) ≡ (read_on n ds, rest)
+more_read : (n : ℕ) (ds rest : List ℕ) → AllByRecursion Digit ds → Stop rest → more_digits n (ds ++ rest) ≡ (read_on n ds, rest)
 more_read n [] [] d s = refl
 more_read n [] (c ∷ rest) d s = ap (λ v. more_by n c rest v) (test_other c s)
 more_read n (b ∷ ds) rest d s = ap (λ v. more_by n b (ds ++ rest) v) (test_digit b d.0) ∙ more_read (n * 10 + (b - 48)) ds rest d.1 s
@@ -140,7 +140,7 @@ laid (w ∷ ws) last (d ∷ ds) = w ++ (d ++ laid ws last ds)
 -- the bytes are of the shape, and these are its numbers
 pub record OfShape (ws : List (List ℕ)) (last bs ns : List ℕ) : Type 0 where
   pub numerals : List (List ℕ)
-  pub each : All Numeral numerals
+  pub each : AllByRecursion Numeral numerals
   pub count : length numerals ≡ length ws
   pub is : bs ≡ laid ws last numerals
   pub numbers : ns ≡ map value numerals
@@ -198,7 +198,7 @@ laid_stops [] last ds m = subst Stop (append-nil last) (mark_stops last [] m)
 laid_stops (w ∷ ws) last [] m = subst Stop (append-nil w) (mark_stops w [] m.0)
 laid_stops (w ∷ ws) last (d ∷ ds) m = mark_stops w (d ++ laid ws last ds) m.0
 
-pub scan_read : (ws : List (List ℕ)) (last : List ℕ) (ds : List (List ℕ)) → Marks ws last → All Numeral ds → length ds ≡ length ws → scan ws last (laid ws last ds) ≡ Some (map value ds)
+pub scan_read : (ws : List (List ℕ)) (last : List ℕ) (ds : List (List ℕ)) → Marks ws last → AllByRecursion Numeral ds → length ds ≡ length ws → scan ws last (laid ws last ds) ≡ Some (map value ds)
 scan_read [] last [] m p e = scan_last last
 scan_read [] last (d ∷ ds) m p e = absurd (omega (arith, e))
 scan_read (w ∷ ws) last [] m p e = absurd (omega (arith, e))
@@ -207,7 +207,7 @@ scan_read (w ∷ ws) last (d ∷ ds) m p e =
     ∙ ap (λ o. bind o (λ ns. Some (value d ∷ ns))) (scan_read ws last ds m.1 p.1 (omega (arith, e)))
 
 -- bytes that are of the front words, and go on as the other words do not
-pub scan_diverges : (vs ws : List (List ℕ)) (last rest : List ℕ) (ds : List (List ℕ)) → Marks vs rest → All Numeral ds → length ds ≡ length vs → scan ws last rest ≡ None → scan (vs ++ ws) last (laid vs rest ds) ≡ None
+pub scan_diverges : (vs ws : List (List ℕ)) (last rest : List ℕ) (ds : List (List ℕ)) → Marks vs rest → AllByRecursion Numeral ds → length ds ≡ length vs → scan ws last rest ≡ None → scan (vs ++ ws) last (laid vs rest ds) ≡ None
 scan_diverges [] ws last rest ds m p e none = none
 scan_diverges (v ∷ vs) ws last rest [] m p e none = absurd (omega (arith, e))
 scan_diverges (v ∷ vs) ws last rest (d ∷ ds) m p e none =

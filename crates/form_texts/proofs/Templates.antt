@@ -1,6 +1,6 @@
 -- Shapes as templates: what the scanner reads along a template is what the machine's reader reads along the shape.
 use Rattle.std.proofs.Common.{◌≡◌, ℕ, Bool, true, false, not, ◌&&◌, List, [], ◌∷◌, ◌++◌, map, length, Some, None, Option, sym, refl, ap, ◌∙◌, arith}
-use Rattle.std.specs.List.{AllByRecursion as All}
+use Rattle.std.specs.List.{AllByRecursion}
 use Rattle.std.proofs.lemmas.List.{length-map}
 use Rattle.std.proofs.lemmas.Bool.Decides.{nat_tests}
 use Rattle.scanner.specs.Numerals.{Numeral, value, told}
@@ -79,11 +79,11 @@ map_told : (ds : List (List ℕ)) → map told ds ≡ map cap (map value ds)
 map_told [] = refl
 map_told (d ∷ ds) = ap (λ l. told d ∷ l) (map_told ds)
 
-numerals_valued : (ds : List (List ℕ)) → All Numeral ds → ds ≡ map numeral (map value ds)
+numerals_valued : (ds : List (List ℕ)) → AllByRecursion Numeral ds → ds ≡ map numeral (map value ds)
 numerals_valued [] p = refl
 numerals_valued (d ∷ ds) p = λ j. sym (numeral_value d p.0) j ∷ numerals_valued ds p.1 j
 
-pub all_numerals : (ns : List ℕ) → All Numeral (map numeral ns)
+pub all_numerals : (ns : List ℕ) → AllByRecursion Numeral (map numeral ns)
 all_numerals [] = tt
 all_numerals (n ∷ ns) = (numeral_is n, all_numerals ns)
 

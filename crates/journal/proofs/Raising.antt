@@ -1,6 +1,6 @@
 -- One layer higher: the calls do not look at the height.
 use Rattle.std.proofs.Common.{◌≡◌, ℕ, ◌+◌, ◌≤◌, Bool, List, [], ◌∷◌, Ok, Option, Result, sym, refl, ap, ◌∙◌, subst, arith}
-use Rattle.std.specs.List.{AllByRecursion as All}
+use Rattle.std.specs.List.{AllByRecursion}
 use Rattle.std.proofs.ByRecursion.{All-weaker}
 use Rattle.elements.specs.declared.entries.Entry.{Entry}
 use Rattle.stores.specs.declared.refusals.Refusal.{Refusal}
@@ -11,7 +11,7 @@ use Rattle.journal.specs.Kept.{WellKept, noted}
 use Rattle.journal.specs.declared.logs.Change.{Change}
 use Rattle.journal.specs.Raised.{raised, raised_fixed, Over}
 
-all_higher : (h : ℕ) (pss : List (List Pair)) → All (AtMost h) pss → All (AtMost (h + 1)) pss
+all_higher : (h : ℕ) (pss : List (List Pair)) → AllByRecursion (AtMost h) pss → AllByRecursion (AtMost (h + 1)) pss
 all_higher h pss a = All-weaker _ _ (λ ps b. All-weaker _ _ (λ (p : Pair) (c : p.height ≤ h). omega (arith, c)) ps b) pss a
 
 -- the changes do not touch the height

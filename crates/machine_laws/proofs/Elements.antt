@@ -1,6 +1,6 @@
 -- Elements of lists: one that is another, and what holds of all of them.
 use Rattle.std.proofs.Common.{◌≡◌, ℕ, zero, suc, Bool, true, false, cond, eqb, List, [], ◌∷◌, get_or, set, replicate, refl}
-use Rattle.std.specs.List.{AllByRecursion as All}
+use Rattle.std.specs.List.{AllByRecursion}
 use Rattle.stores.specs.SortedLists.{merge, merge_at, insert, without}
 
 -- what holds of the new element, and of an old one, holds of the one that is there
@@ -24,27 +24,27 @@ set_alike f (x ∷ xs) zero (suc j) a d p = refl
 set_alike f (x ∷ xs) (suc i) zero a d p = refl
 set_alike f (x ∷ xs) (suc i) (suc j) a d p = set_alike f xs i j a d p
 
-pub all_get : {A : Type 0} (P : A → Type 0) (xs : List A) (q : ℕ) (d : A) → All P xs → P d → P (get_or xs q d)
+pub all_get : {A : Type 0} (P : A → Type 0) (xs : List A) (q : ℕ) (d : A) → AllByRecursion P xs → P d → P (get_or xs q d)
 all_get P [] q d h z = z
 all_get P (x ∷ xs) zero d h z = h.0
 all_get P (x ∷ xs) (suc q) d h z = all_get P xs q d h.1 z
 
 module _ {A : Type 0} (P : A → Type 0) where
-  either : (b : Bool) (xs ys : List A) → All P xs → All P ys → All P (elim b [ true ↦ xs | false ↦ ys ])
+  either : (b : Bool) (xs ys : List A) → AllByRecursion P xs → AllByRecursion P ys → AllByRecursion P (elim b [ true ↦ xs | false ↦ ys ])
   either true xs ys p q = p
   either false xs ys p q = q
 
-  merge_2 : (before : A → A → Bool) (x : A) (others : List A → List A) → P x → ((us : List A) → All P us → All P (others us)) → (ys : List A) → All P ys → All P (merge_at before x others ys)
+  merge_2 : (before : A → A → Bool) (x : A) (others : List A → List A) → P x → ((us : List A) → AllByRecursion P us → AllByRecursion P (others us)) → (ys : List A) → AllByRecursion P ys → AllByRecursion P (merge_at before x others ys)
   merge_2 before x others p ih [] h = (p, ih [] tt)
   merge_2 before x others p ih (y ∷ ys) h = either (before y x) (y ∷ merge_at before x others ys) (x ∷ others (y ∷ ys)) (h.0, merge_2 before x others p ih ys h.1) (p, ih (y ∷ ys) h)
 
-  pub all_merge : (before : A → A → Bool) (xs ys : List A) → All P xs → All P ys → All P (merge before xs ys)
+  pub all_merge : (before : A → A → Bool) (xs ys : List A) → AllByRecursion P xs → AllByRecursion P ys → AllByRecursion P (merge before xs ys)
   all_merge before [] ys p h = h
   all_merge before (x ∷ xs) ys p h = merge_2 before x (merge before xs) p.0 (λ us u. all_merge before xs us p.1 u) ys h
 
-  pub all_insert : (before : A → A → Bool) (x : A) (ys : List A) → P x → All P ys → All P (insert before x ys)
+  pub all_insert : (before : A → A → Bool) (x : A) (ys : List A) → P x → AllByRecursion P ys → AllByRecursion P (insert before x ys)
   all_insert before x ys p h = all_merge before (x ∷ []) ys (p, tt) h
 
-  pub all_without : (key : A → ℕ) (k : ℕ) (xs : List A) → All P xs → All P (without key k xs)
+  pub all_without : (key : A → ℕ) (k : ℕ) (xs : List A) → AllByRecursion P xs → AllByRecursion P (without key k xs)
   all_without key k [] h = tt
-  all_without key k (x ∷ xs) h = elim (eqb (key x) k) as (λ b. All P (cond b xs (x ∷ without key k xs))) [ true ↦ h.1 | false ↦ (h.0, all_without key k xs h.1) ]
+  all_without key k (x ∷ xs) h = elim (eqb (key x) k) as (λ b. AllByRecursion P (cond b xs (x ∷ without key k xs))) [ true ↦ h.1 | false ↦ (h.0, all_without key k xs h.1) ]

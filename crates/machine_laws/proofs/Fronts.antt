@@ -1,6 +1,6 @@
 -- The front of a line is taken in hand: nobody who waits there precedes it.
 use Rattle.std.proofs.Common.{◌≡◌, ℕ, ◌+◌, ◌≤◌, true, false, cond, eqb, List, [], ◌∷◌, Some, None, Ok, sum_by, Option, sym, refl, ap, ◌∙◌, subst, arith}
-use Rattle.std.specs.List.{AllByRecursion as All}
+use Rattle.std.specs.List.{AllByRecursion}
 use Rattle.std.proofs.ByRecursion.{All-set, All-weaker}
 use Rattle.std.proofs.lemmas.Bool.{eq-eqb}
 use Rattle.std.proofs.lemmas.Bool.Decides.{nat_tests}
@@ -52,19 +52,19 @@ unfolding line_of stamp_in
 same_place a b c d e = (ap line_of e, ap stamp_in e)
 
 -- nobody behind the front precedes it
-behind : (xs : List (Entry LineEntry)) (e : Entry LineEntry) → front xs ≡ Some e → Sorted (precedes_by line_le) xs → All (λ y. precedes_by line_le y e ≡ false) xs
+behind : (xs : List (Entry LineEntry)) (e : Entry LineEntry) → front xs ≡ Some e → Sorted (precedes_by line_le) xs → AllByRecursion (λ y. precedes_by line_le y e ≡ false) xs
 behind [] e p s = tt
 behind (x ∷ xs) e p s =
     let same : x ≡ e = cc in
-    subst (λ z. All (λ y. precedes_by line_le y z ≡ false) (x ∷ xs)) same (line_strict.irreflexive x, All-weaker (λ y. precedes_by line_le x y ≡ true) (λ y. precedes_by line_le y x ≡ false) (λ y h. line_strict.asymmetric x y h) xs (front_before (precedes_by line_le) stamp_of line_strict x xs s))
+    subst (λ z. AllByRecursion (λ y. precedes_by line_le y z ≡ false) (x ∷ xs)) same (line_strict.irreflexive x, All-weaker (λ y. precedes_by line_le x y ≡ true) (λ y. precedes_by line_le y x ≡ false) (λ y h. line_strict.asymmetric x y h) xs (front_before (precedes_by line_le) stamp_of line_strict x xs s))
 
-both : {A : Type 0} (P Q : A → Type 0) (xs : List A) → All P xs → All Q xs → All (λ x. P x × Q x) xs
+both : {A : Type 0} (P Q : A → Type 0) (xs : List A) → AllByRecursion P xs → AllByRecursion Q xs → AllByRecursion (λ x. P x × Q x) xs
 both P Q [] p q = tt
 both P Q (x ∷ xs) p q = ((p.0, q.0), both P Q xs p.1 q.1)
 
 -- nobody in hand waits by the records
 abbrev pub Placeless : List Hand → Type 0
-Placeless h = All (λ (x : Hand). x.place ≡ None) h
+Placeless h = AllByRecursion (λ (x : Hand). x.place ≡ None) h
 
 -- whoever waits in line k by the records is in it
 record Stands (m : Machine) (j k t : ℕ) : Type 0 where
@@ -91,7 +91,7 @@ stranded_not is-withdrawn m j q f e = let w : ◌≡◌ {A = ℕ} 0 1 = cc in om
 stranded_not Stranded m j q f e = f.1 q
 
 -- whether order j is one of those in hand
-held_or_out : (m : Machine) (j k t : ℕ) (h : List Hand) → All (IsInHand m) h → Placeless h → place j m.records ≡ Some (k, t) → Out h j
+held_or_out : (m : Machine) (j k t : ℕ) (h : List Hand) → AllByRecursion (IsInHand m) h → Placeless h → place j m.records ≡ Some (k, t) → Out h j
 held_or_out m j k t [] p q e = tt
 held_or_out m j k t (x ∷ h) p q e = ((λ s. let y = p.0.place in let z = q.0 in let a : ◌≡◌ {A = Option (ℕ × ℕ)} (Some (k, t)) None = sym e ∙ ap (λ i. place i m.records) (sym s) ∙ y ∙ z in let w : ◌≡◌ {A = ℕ} 0 1 = cc in omega arith), held_or_out m j k t h p.1 q.1 e)
 
@@ -127,7 +127,7 @@ module _ (who : ℕ → LineEntry) (n k : ℕ) (h : List Hand) (m : Machine) (b 
       f.1.2 ∙ (λ j. Some (line-is j, stamp_is j))
 
   pub front_base : Base who n (fronted e k m)
-  front_base = base_kept h n m (fronted e k m) refl refl who n b (All-set (All (Written who)) m.lines.state.lists k _ (all_rest (Written who) (list_of m.lines.state k) (all_get (All (Written who)) m.lines.state.lists k [] b.written tt)) b.written) b.stamped b.good b.left b.ranged
+  front_base = base_kept h n m (fronted e k m) refl refl who n b (All-set (AllByRecursion (Written who)) m.lines.state.lists k _ (all_rest (Written who) (list_of m.lines.state k) (all_get (AllByRecursion (Written who)) m.lines.state.lists k [] b.written tt)) b.written) b.stamped b.good b.left b.ranged
 
   pub front_orders : Orders (record { order = i; place = Some (k, e.stamp); unfinished = false } ∷ h) n (fronted e k m)
   front_orders =
@@ -147,14 +147,14 @@ module _ (who : ℕ → LineEntry) (n k : ℕ) (h : List Hand) (m : Machine) (b 
       let fits = o.fits j out in
       let st = stands_by (order m.network j).state m j k t (stranded_not (order m.network j).state m j running fits) fits pj in
       let there : 1 ≤ sum_by (wait_with j t 0) (list_of m.lines.state k) = omega (arith, st.there, only_at k (wait_with j t 0) m.lines.state) in
-      let y = find (λ z. (precedes_by line_le z e ≡ false) × Written who z) (wait_with j t 0) (list_of m.lines.state k) (both (λ z. precedes_by line_le z e ≡ false) (Written who) (list_of m.lines.state k) (behind (list_of m.lines.state k) e p (sorted_at line_le line_strict m.lines.state tidy k)) (all_get (All (Written who)) m.lines.state.lists k [] b.written tt)) there in
+      let y = find (λ z. (precedes_by line_le z e ≡ false) × Written who z) (wait_with j t 0) (list_of m.lines.state k) (both (λ z. precedes_by line_le z e ≡ false) (Written who) (list_of m.lines.state k) (behind (list_of m.lines.state k) e p (sorted_at line_le line_strict m.lines.state tidy k)) (all_get (AllByRecursion (Written who)) m.lines.state.lists k [] b.written tt)) there in
       let here : 1 ≤ cond (eqb y.0.stamp t) (one (eqb y.0.element.order j)) 0 = y.2 in
       let order_is : y.0.element.order ≡ j = grind (arith, nat_tests, here) in
       let stamp_is : y.0.stamp ≡ t = grind (arith, nat_tests, here) in
-      let mine : e.element ≡ who i = front_is (list_of m.lines.state k) p (all_get (All (Written who)) m.lines.state.lists k [] b.written tt) in
+      let mine : e.element ≡ who i = front_is (list_of m.lines.state k) p (all_get (AllByRecursion (Written who)) m.lines.state.lists k [] b.written tt) in
       let s-is : e.stamp ≡ s = (same_place k e.stamp k s (sym front_place ∙ pi)).1 in
       subst (λ (a : Entry LineEntry). precedes_by line_le a (record { element = who i; stamp = s }) ≡ false) (λ d. record { element = (y.1.1 ∙ ap who order_is) d; stamp = stamp_is d }) (subst (λ (a : Entry LineEntry). precedes_by line_le y.0 a ≡ false) (λ d. record { element = mine d; stamp = s-is d }) y.1.0)
     where
-      front_is : (xs : List (Entry LineEntry)) → front xs ≡ Some e → All (Written who) xs → Written who e
+      front_is : (xs : List (Entry LineEntry)) → front xs ≡ Some e → AllByRecursion (Written who) xs → Written who e
       front_is [] q a = absurd (let w : ◌≡◌ {A = ℕ} 0 1 = cc in omega arith)
       front_is (x ∷ xs) q a = let same : x ≡ e = cc in subst (Written who) same a.0

@@ -1,6 +1,6 @@
 -- Orders are taken in hand: as they arrive, finish, or leave a line.
 use Rattle.std.proofs.Common.{◌≡◌, ℕ, ◌+◌, ◌<◌, ◌≤◌, true, false, cond, eqb, ltb, ◌⊎◌, List, [], ◌∷◌, length, get_or, take, Some, None, Ok, sum_by, sym, refl, ap, ◌∙◌, subst, inl, inr, arith}
-use Rattle.std.specs.List.{AllByRecursion as All}
+use Rattle.std.specs.List.{AllByRecursion}
 use Rattle.std.proofs.ByRecursion.{All-set}
 use Rattle.std.proofs.lemmas.Bool.{cases_lt, eq-eqb}
 use Rattle.std.proofs.lemmas.Bool.Decides.{nat_tests}
@@ -33,7 +33,7 @@ module _ (h : List Hand) (n : ℕ) (m v : Machine) (os : v.network.orders ≡ m.
   stale_kept [] = refl
   stale_kept (x ∷ g) = λ j. pending_in (get_or (os j) x.order no_order).state + stale_kept g j
 
-  hands_kept : (g : List Hand) → ((j : ℕ) → Same m v j) → All (IsInHand m) g → All (IsInHand v) g
+  hands_kept : (g : List Hand) → ((j : ℕ) → Same m v j) → AllByRecursion (IsInHand m) g → AllByRecursion (IsInHand v) g
   hands_kept [] s p = tt
   hands_kept (x ∷ g) s p = (hand_same m v x d (s x.order) p.0, hands_kept g s p.1)
 
@@ -45,7 +45,7 @@ module _ (h : List Hand) (n : ℕ) (m v : Machine) (os : v.network.orders ≡ m.
     fits = λ j q. subst (λ xs. Fits v j (get_or xs j no_order).state) (sym os) (fits_same m v j (order m.network j).state d f (s j) (o.fits j q));
   }
 
-  pub base_kept : (who : ℕ → LineEntry) (p : ℕ) → Base who n m → All (All (Written who)) v.lines.state.lists → waits v.records ≡ v.lines.state.next → Good who v.records → total any_arrival v.events.state ≡ p → All (All Ranged) v.events.state.lists → Base who p v
+  pub base_kept : (who : ℕ → LineEntry) (p : ℕ) → Base who n m → AllByRecursion (AllByRecursion (Written who)) v.lines.state.lists → waits v.records ≡ v.lines.state.next → Good who v.records → total any_arrival v.events.state ≡ p → AllByRecursion (AllByRecursion Ranged) v.events.state.lists → Base who p v
   base_kept who p b w s g l z = record {
     size = ap length os ∙ b.size;
     few = subst (λ x. x ≤ 1024) (sym d) b.few;
@@ -61,12 +61,12 @@ module _ (h : List Hand) (n : ℕ) (m v : Machine) (os : v.network.orders ≡ m.
 same_number : (i : ℕ) → eqb i i ≡ true
 same_number i = eq-eqb i i refl
 
-pub all_rest : {A : Type 0} (P : Entry A → Type 0) (xs : List (Entry A)) → All P xs → All P (rest xs)
+pub all_rest : {A : Type 0} (P : Entry A → Type 0) (xs : List (Entry A)) → AllByRecursion P xs → AllByRecursion P (rest xs)
 all_rest P [] h = tt
 all_rest P (x ∷ xs) h = h.1
 
 -- who has something in a store is not in hand
-pub out_by : (m : Machine) (i : ℕ) (h : List Hand) → All (IsInHand m) h → (Spot m i 0 0 0 → ⊥) → Out h i
+pub out_by : (m : Machine) (i : ℕ) (h : List Hand) → AllByRecursion (IsInHand m) h → (Spot m i 0 0 0 → ⊥) → Out h i
 out_by m i [] p q = tt
 out_by m i (x ∷ h) p q = ((λ e. q (subst (λ j. Spot m j 0 0 0) e p.0.spot)), out_by m i h p.1 q)
 
@@ -129,8 +129,8 @@ module _ (who : ℕ → LineEntry) (n : ℕ) (m : Machine) (b : Base who n m) (o
   takes : (f : ℕ → Entry Event → ℕ) → total f (taken e m).events.state + f 0 e ≡ total f m.events.state
   takes f = (front_leaves m.events.state 0 e p).total f
 
-  abbrev ranged_rest : All (All Ranged) (taken e m).events.state.lists
-  ranged_rest = All-set (All Ranged) m.events.state.lists 0 _ (all_rest Ranged (list_of m.events.state 0) (all_get (All Ranged) m.events.state.lists 0 [] b.ranged tt)) b.ranged
+  abbrev ranged_rest : AllByRecursion (AllByRecursion Ranged) (taken e m).events.state.lists
+  ranged_rest = All-set (AllByRecursion Ranged) m.events.state.lists 0 _ (all_rest Ranged (list_of m.events.state 0) (all_get (AllByRecursion Ranged) m.events.state.lists 0 [] b.ranged tt)) b.ranged
 
   taken_base : (q : ℕ) → total any_arrival (taken e m).events.state ≡ q → Base who q (taken e m)
   taken_base q l = base_kept [] n m (taken e m) refl refl who q b b.written b.stamped b.good l ranged_rest

@@ -1,6 +1,6 @@
 -- A station closes: whoever waits in its line waits in the other.
 use Rattle.std.proofs.Common.{◌≡◌, ℕ, ◌+◌, ◌<◌, ◌≤◌, cond, eqb, ◌⊎◌, [], length, set, None, Ok, sum_by, Result, sym, refl, ap, ◌∙◌, subst, inl, inr, arith}
-use Rattle.std.specs.List.{AllByRecursion as All}
+use Rattle.std.specs.List.{AllByRecursion}
 use Rattle.std.proofs.ByRecursion.{All-set}
 use Rattle.std.proofs.lemmas.Bool.{cases_eq, cond-true, cond-false, eq-eqb, ne_eqb}
 use Rattle.elements.specs.declared.lines.LineEntry.{LineEntry}
@@ -90,5 +90,5 @@ module _ (who : ℕ → LineEntry) (n k j : ℕ) (m : Machine) (b : Base who n m
   pub melded_base : Base who n v
   melded_base =
       let l = m.lines.state in
-      let at = λ (q : ℕ). all_get (All (Written who)) l.lists q [] b.written tt in
-      base_kept [] n m v refl refl who n b (All-set (All (Written who)) (set l.lists j (merge (precedes_by line_le) (list_of l j) (list_of l k))) k [] tt (All-set (All (Written who)) l.lists j _ (all_merge (Written who) (precedes_by line_le) (list_of l j) (list_of l k) (at j) (at k)) b.written)) (waits_push m.records _ ∙ omega (arith, b.stamped)) (good_push who m.records _ b.good tt) b.left b.ranged
+      let at = λ (q : ℕ). all_get (AllByRecursion (Written who)) l.lists q [] b.written tt in
+      base_kept [] n m v refl refl who n b (All-set (AllByRecursion (Written who)) (set l.lists j (merge (precedes_by line_le) (list_of l j) (list_of l k))) k [] tt (All-set (AllByRecursion (Written who)) l.lists j _ (all_merge (Written who) (precedes_by line_le) (list_of l j) (list_of l k) (at j) (at k)) b.written)) (waits_push m.records _ ∙ omega (arith, b.stamped)) (good_push who m.records _ b.good tt) b.left b.ranged

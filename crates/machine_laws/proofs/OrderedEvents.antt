@@ -1,6 +1,6 @@
 -- Every event keeps what holds of the orders.
 use Rattle.std.proofs.Common.{◌≡◌, ℕ, zero, suc, ◌+◌, ◌<◌, Bool, true, false, ◌||◌, eqb, List, [], ◌∷◌, Some, None, Option, sym, refl, ap, ◌∙◌, subst, arith}
-use Rattle.std.specs.List.{AllByRecursion as All}
+use Rattle.std.specs.List.{AllByRecursion}
 use Rattle.std.proofs.lemmas.Bool.{or_parts, eqb-false}
 use Rattle.elements.specs.declared.events.Event.{Event}
 use Rattle.elements.specs.declared.events.EventKind.{EventKind}
@@ -148,12 +148,12 @@ module _ (who : ℕ → LineEntry) where
 
   -- the front event e is taken from m, and happens
   module _ (n : ℕ) (m : Machine) (inv : Inv who [] n m) (running : m.fault ≡ None) (e : Entry Event) (p : next_event m ≡ Some e) (s : Sound (taken e m)) where
-    ranged : (xs : List (Entry Event)) → front xs ≡ Some e → All Ranged xs → Ranged e
+    ranged : (xs : List (Entry Event)) → front xs ≡ Some e → AllByRecursion Ranged xs → Ranged e
     ranged [] q a = absurd (let w : ◌≡◌ {A = ℕ} 0 1 = cc in omega arith)
     ranged (x ∷ xs) q a = let same : x ≡ e = cc in subst Ranged same a.0
 
     in_range : Ranged e
-    in_range = ranged (list_of m.events.state 0) p (all_get (All Ranged) m.events.state.lists 0 [] inv.base.ranged tt)
+    in_range = ranged (list_of m.events.state 0) p (all_get (AllByRecursion Ranged) m.events.state.lists 0 [] inv.base.ranged tt)
 
     -- as many arrivals as the event is are no longer left
     pub react_inv : (x : EventKind) → e.element.kind ≡ x → (q : ℕ) × (n ≡ q + is_arrival x) × Inv who [] q (react x (taken e m))

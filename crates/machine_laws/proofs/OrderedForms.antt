@@ -1,6 +1,6 @@
 -- Every form keeps what holds of the orders.
 use Rattle.std.proofs.Common.{◌≡◌, ℕ, zero, suc, ◌+◌, ◌<◌, ◌≤◌, eqb, ltb, ◌⊎◌, [], ◌∷◌, ◌++◌, length, take, set, replicate, Ok, sum_by, Option, sym, refl, ap, ◌∙◌, subst, inl, inr, arith}
-use Rattle.std.specs.List.{AllByRecursion as All}
+use Rattle.std.specs.List.{AllByRecursion}
 use Rattle.std.proofs.ByRecursion.{All-set}
 use Rattle.std.proofs.lemmas.List.{length-set, get_or-set_same, get_or-set_other, take_more_set}
 use Rattle.std.proofs.lemmas.List.Sums.{sum_by_push}
@@ -39,8 +39,8 @@ module _ (who : ℕ → LineEntry) (n : ℕ) (m : Machine) (x : Event) (c : Opti
   puts : (f : ℕ → Entry Event → ℕ) → total f (with_event x c m).events.state ≡ total f m.events.state + f 0 (record { element = x; stamp = m.events.state.next })
   puts f = total_put f event_le m.events.state 0 x m.events.state.next inside
 
-  ranged_more : All (All Ranged) (with_event x c m).events.state.lists
-  ranged_more = All-set (All Ranged) m.events.state.lists 0 _ (all_insert Ranged (precedes_by event_le) _ (list_of m.events.state 0) fine (all_get (All Ranged) m.events.state.lists 0 [] b.ranged tt)) b.ranged
+  ranged_more : AllByRecursion (AllByRecursion Ranged) (with_event x c m).events.state.lists
+  ranged_more = All-set (AllByRecursion Ranged) m.events.state.lists 0 _ (all_insert Ranged (precedes_by event_le) _ (list_of m.events.state 0) fine (all_get (AllByRecursion Ranged) m.events.state.lists 0 [] b.ranged tt)) b.ranged
 
   put_same : (j : ℕ) → Foreign j x.kind → Same m (with_event x c m) j
   put_same j f = same_by m (with_event x c m) j (event_put m.events.state x m.events.state.next j inside f) (lines_kept m.lines.state j) (told_kept m.records j)
@@ -61,7 +61,7 @@ module _ (who : ℕ → LineEntry) (n : ℕ) (m : Machine) (x : Event) (c : Opti
     abbrev who_now : ℕ → LineEntry
     who_now j = line_entry v.network j
 
-    all_none : (w : ℕ) → All (All (Written who_now)) (replicate w [])
+    all_none : (w : ℕ) → AllByRecursion (AllByRecursion (Written who_now)) (replicate w [])
     all_none zero = tt
     all_none (suc w) = (tt, all_none w)
 
@@ -73,7 +73,7 @@ module _ (who : ℕ → LineEntry) (n : ℕ) (m : Machine) (x : Event) (c : Opti
       size = length-set m.network.orders i (new_order u d s) ∙ b.size;
       few = omega (arith, next);
       known = λ j. refl;
-      written = subst (λ (l : State LineEntry). All (All (Written who_now)) l.lists) (sym empty) (all_none 32);
+      written = subst (λ (l : State LineEntry). AllByRecursion (AllByRecursion (Written who_now)) l.lists) (sym empty) (all_none 32);
       stamped = b.stamped;
       good = subst (Good who_now) (sym nothing) tt;
       left = puts any_arrival ∙ omega (arith, ap is_arrival is, b.left);

@@ -1,6 +1,6 @@
 -- What holds of the orders after every list of calls.
 use Rattle.std.proofs.Common.{◌≡◌, ℕ, zero, suc, ◌+◌, Bool, true, false, List, [], ◌∷◌, replicate, Option, sym, refl, ap, subst, arith}
-use Rattle.std.specs.List.{AllByRecursion as All}
+use Rattle.std.specs.List.{AllByRecursion}
 use Rattle.std.proofs.lemmas.List.{length-replicate}
 use Rattle.std.proofs.lemmas.Bool.{le-ltb}
 use Rattle.elements.specs.declared.events.Event.{Event}
@@ -70,6 +70,6 @@ first_reached e l c = record {
   empty = λ q. refl;
 }
   where
-    none : (A : Type 0) (P : A → Type 0) (w : ℕ) → All (All P) (replicate w [])
+    none : (A : Type 0) (P : A → Type 0) (w : ℕ) → AllByRecursion (AllByRecursion P) (replicate w [])
     none A P zero = tt
     none A P (suc w) = (tt, none A P w)

@@ -1,6 +1,6 @@
 -- Each part of a step keeps what holds of the orders.
 use Rattle.std.proofs.Common.{◌≡◌, ℕ, ◌<◌, Bool, true, false, ◌⊎◌, List, [], ◌∷◌, ◌++◌, length, Some, None, Option, sym, refl, ap, ◌∙◌, subst, inl, inr, arith}
-use Rattle.std.specs.List.{AllByRecursion as All}
+use Rattle.std.specs.List.{AllByRecursion}
 use Rattle.std.proofs.lemmas.Bool.{leb-false}
 use Rattle.elements.specs.declared.lines.LineEntry.{LineEntry}
 use Rattle.elements.specs.declared.entries.Entry.{Entry}
@@ -69,7 +69,7 @@ module _ (who : ℕ → LineEntry) where
         place = ap (place j) r;
         unfinished = ap (unfinished j) r;
       } in (
-        base_kept h n m v os d who n b (subst (λ x. All (All (Written who)) x.lists) (sym l) b.written) (ap waits r ∙ b.stamped ∙ ap (λ x. x.next) (sym l)) (subst (Good who) (sym r) b.good) (ap (total any_arrival) e ∙ b.left) (subst (λ x. All (All Ranged) x.lists) (sym e) b.ranged),
+        base_kept h n m v os d who n b (subst (λ x. AllByRecursion (AllByRecursion (Written who)) x.lists) (sym l) b.written) (ap waits r ∙ b.stamped ∙ ap (λ x. x.next) (sym l)) (subst (Good who) (sym r) b.good) (ap (total any_arrival) e ∙ b.left) (subst (λ x. AllByRecursion (AllByRecursion Ranged) x.lists) (sym e) b.ranged),
         carry h n m v os d f kept o,
       )
 

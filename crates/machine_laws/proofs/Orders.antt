@@ -1,6 +1,6 @@
 -- What holds of every order, in hand or not, at any moment of a step.
 use Rattle.std.proofs.Common.{◌≡◌, ℕ, ◌+◌, ◌<◌, ◌≤◌, Bool, false, cond, eqb, ltb, List, [], ◌∷◌, length, Some, None, sum_by, sym, ◌∙◌, subst, arith}
-use Rattle.std.specs.List.{AllByRecursion as All}
+use Rattle.std.specs.List.{AllByRecursion}
 use Rattle.elements.specs.declared.events.Event.{Event}
 use Rattle.elements.specs.declared.events.EventKind.{EventKind}
 use Rattle.elements.specs.declared.events.EventKind.TheVariants.{Arrive, Finish, Withdraw, Close}
@@ -57,7 +57,7 @@ pub record IsInHand (m : Machine) (x : Hand) : Type 0 where
 
 -- order i is none of those in hand
 abbrev pub Out : List Hand → ℕ → Type 0
-Out h i = All (λ (x : Hand). x.order ≡ i → ⊥) h
+Out h i = AllByRecursion (λ (x : Hand). x.order ≡ i → ⊥) h
 
 abbrev pub Apart : List Hand → Type 0
 Apart [] = Unit {0}
@@ -86,17 +86,17 @@ pub record Base (who : ℕ → LineEntry) (n : ℕ) (m : Machine) : Type 0 where
   pub size : length m.network.orders ≡ 1024
   pub few : m.network.declared.orders ≤ 1024
   pub known : (i : ℕ) → line_entry m.network i ≡ who i
-  pub written : All (All (λ (e : Entry LineEntry). e.element ≡ who e.element.order)) m.lines.state.lists
+  pub written : AllByRecursion (AllByRecursion (λ (e : Entry LineEntry). e.element ≡ who e.element.order)) m.lines.state.lists
   pub stamped : waits m.records ≡ m.lines.state.next
   pub good : Good who m.records
   pub left : total any_arrival m.events.state ≡ n
   pub undeclared : (i : ℕ) → m.network.declared.orders ≤ i → (order m.network i).state ≡ NotYet
-  pub ranged : All (All Ranged) m.events.state.lists
+  pub ranged : AllByRecursion (AllByRecursion Ranged) m.events.state.lists
 
 -- these orders are in hand, and every other is where its state says
 pub record Orders (h : List Hand) (n : ℕ) (m : Machine) : Type 0 where
   pub pending : pending m.network ≡ n + stale m.network h
-  pub hand : All (IsInHand m) h
+  pub hand : AllByRecursion (IsInHand m) h
   pub apart : Apart h
   pub fits : (i : ℕ) → Out h i → Fits m i (order m.network i).state
 
@@ -137,6 +137,6 @@ hand_same m v x d s p = record {
   unfinished = s.unfinished ∙ p.unfinished;
 }
 
-pub hands_same : (m v : Machine) (i : ℕ) (h : List Hand) → v.network.declared.orders ≡ m.network.declared.orders → ((j : ℕ) → (j ≡ i → ⊥) → Same m v j) → Out h i → All (IsInHand m) h → All (IsInHand v) h
+pub hands_same : (m v : Machine) (i : ℕ) (h : List Hand) → v.network.declared.orders ≡ m.network.declared.orders → ((j : ℕ) → (j ≡ i → ⊥) → Same m v j) → Out h i → AllByRecursion (IsInHand m) h → AllByRecursion (IsInHand v) h
 hands_same m v i [] d s o p = tt
 hands_same m v i (x ∷ h) d s o p = (hand_same m v x d (s x.order o.0) p.0, hands_same m v i h d s o.1 p.1)

@@ -1,6 +1,6 @@
 -- The ways in which an order in hand is spent.
 use Rattle.std.proofs.Common.{◌≡◌, ℕ, ◌+◌, ◌<◌, ◌≤◌, true, false, cond, ◌&&◌, eqb, List, [], ◌∷◌, ◌++◌, length, get_or, Some, None, Ok, Option, sym, refl, ap, ◌∙◌, subst, arith}
-use Rattle.std.specs.List.{AllByRecursion as All}
+use Rattle.std.specs.List.{AllByRecursion}
 use Rattle.std.proofs.ByRecursion.{All-set}
 use Rattle.std.proofs.lemmas.List.{length-set}
 use Rattle.std.proofs.lemmas.Bool.{eq-eqb}
@@ -46,7 +46,7 @@ marks_size i st a b k = ap length k.orders ∙ length-set a.orders i _
 
 module _ (who : ℕ → LineEntry) (n : ℕ) (m v : Machine) where
   -- after a change of one order's state, and of what the other parts say
-  pub base_marked : (i : ℕ) (st : OrderState) → i < m.network.declared.orders → Base who n m → Marks i st m.network v.network → All (All (Written who)) v.lines.state.lists → waits v.records ≡ v.lines.state.next → Good who v.records → total any_arrival v.events.state ≡ n → All (All Ranged) v.events.state.lists → Base who n v
+  pub base_marked : (i : ℕ) (st : OrderState) → i < m.network.declared.orders → Base who n m → Marks i st m.network v.network → AllByRecursion (AllByRecursion (Written who)) v.lines.state.lists → waits v.records ≡ v.lines.state.next → Good who v.records → total any_arrival v.events.state ≡ n → AllByRecursion (AllByRecursion Ranged) v.events.state.lists → Base who n v
   base_marked i st lt b k w s g l z = record {
     size = marks_size i st m.network v.network k ∙ b.size;
     few = subst (λ d. d ≤ 1024) (sym k.declared) b.few;
@@ -93,7 +93,7 @@ module _ (who : ℕ → LineEntry) (i k n : ℕ) (x : Hand) (h : List Hand) (m :
     marks = record { orders = refl; declared = refl }
 
     pub start_base : Base who n begun
-    start_base = base_marked who n m begun i (InService k m.events.state.next) declared_in b marks b.written (waits_push m.records _ ∙ (omega (arith, b.stamped))) (good_push who m.records _ b.good (fair, unfinished_before)) (puts any_arrival ∙ omega (arith, b.left)) (All-set (All Ranged) m.events.state.lists 0 _ (all_insert Ranged (precedes_by event_le) _ (list_of m.events.state 0) tt (all_get (All Ranged) m.events.state.lists 0 [] b.ranged tt)) b.ranged)
+    start_base = base_marked who n m begun i (InService k m.events.state.next) declared_in b marks b.written (waits_push m.records _ ∙ (omega (arith, b.stamped))) (good_push who m.records _ b.good (fair, unfinished_before)) (puts any_arrival ∙ omega (arith, b.left)) (All-set (AllByRecursion Ranged) m.events.state.lists 0 _ (all_insert Ranged (precedes_by event_le) _ (list_of m.events.state 0) tt (all_get (AllByRecursion Ranged) m.events.state.lists 0 [] b.ranged tt)) b.ranged)
 
     pub start_orders : Orders h n begun
     start_orders = spend i (InService k m.events.state.next) x h n m begun xi o (roomy who n m b) marks refl (λ f q. f q)
@@ -121,7 +121,7 @@ module _ (who : ℕ → LineEntry) (i k n : ℕ) (x : Hand) (h : List Hand) (m :
 
     pub wait_base : Base who n queued
     wait_base = base_marked who n m queued i (Waiting m.lines.state.next) declared_in b wait_marks
-        (All-set (All (Written who)) m.lines.state.lists k _ (all_insert (Written who) (precedes_by line_le) _ (list_of m.lines.state k) (b.known i) (all_get (All (Written who)) m.lines.state.lists k [] b.written tt)) b.written)
+        (All-set (AllByRecursion (Written who)) m.lines.state.lists k _ (all_insert (Written who) (precedes_by line_le) _ (list_of m.lines.state k) (b.known i) (all_get (AllByRecursion (Written who)) m.lines.state.lists k [] b.written tt)) b.written)
         (waits_push m.records _ ∙ ap (λ y. y + 1) b.stamped)
         (good_push who m.records _ b.good tt)
         b.left

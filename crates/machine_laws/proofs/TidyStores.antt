@@ -1,6 +1,6 @@
 -- The machine's stores keep 32 sorted queues with distinct stamps.
 use Rattle.std.proofs.Common.{◌≡◌, ℕ, zero, suc, ◌+◌, ◌<◌, ◌≤◌, Bool, true, false, cond, ◌||◌, eqb, ltb, leb, ◌⊎◌, List, [], ◌∷◌, length, set, replicate, Some, None, Ok, Err, sum_by, Option, sym, refl, ap, ◌∙◌, subst, inl, inr, arith}
-use Rattle.std.specs.List.{AllByRecursion as All}
+use Rattle.std.specs.List.{AllByRecursion}
 use Rattle.std.proofs.ByRecursion.{All-set}
 use Rattle.std.proofs.lemmas.List.{length-set, get_or-set_other}
 use Rattle.std.proofs.lemmas.List.Sums.{sum_by-cons}
@@ -22,7 +22,7 @@ use Rattle.machine_laws.proofs.Totalling.{stamp_is, total_with, total_put, total
 module _ {T : Type 0} (le : T → T → Bool) where
   pub record Tidy (s : State T) : Type 0 where
     pub queues : length s.lists ≡ 32
-    pub sorted : All (Sorted (precedes_by le)) s.lists
+    pub sorted : AllByRecursion (Sorted (precedes_by le)) s.lists
     pub stamps : (k : ℕ) → total (stamp_is k) s ≤ cond (ltb k s.next) 1 0
 
 tally_sum : {T : Type 0} (k q : ℕ) (xs : List (Entry T)) → tally stamp_of xs k ≡ sum_by (stamp_is k q) xs
@@ -98,7 +98,7 @@ empty : {T : Type 0} (f : ℕ → Entry T → ℕ) (n o : ℕ) → total_from f 
 empty f zero o = refl
 empty f (suc n) o = omega (arith, empty f n (o + 1))
 
-all_empty : {T : Type 0} (P : List (Entry T) → Type 0) (n : ℕ) → P [] → All P (replicate n [])
+all_empty : {T : Type 0} (P : List (Entry T) → Type 0) (n : ℕ) → P [] → AllByRecursion P (replicate n [])
 all_empty P zero h = tt
 all_empty P (suc n) h = (h, all_empty P n h)
 

@@ -1,6 +1,6 @@
 -- Every call keeps the stores in order and the records in time, and steps come to an end.
 use Rattle.std.proofs.Common.{◌≡◌, ℕ, zero, suc, ◌+◌, ◌<◌, ◌≤◌, Bool, true, false, ltb, ◌⊎◌, List, [], ◌∷◌, Some, None, Ok, Err, Option, Result, sym, refl, ap, ◌∙◌, subst, inl, inr, arith}
-use Rattle.std.specs.List.{AllByRecursion as All}
+use Rattle.std.specs.List.{AllByRecursion}
 use Rattle.std.proofs.ByRecursion.{All-weaker}
 use Rattle.std.proofs.lemmas.List.{get_or-set_same}
 use Rattle.std.proofs.lemmas.Bool.Decides.{nat_tests}
@@ -48,13 +48,13 @@ due_front None (Some t) None x p = absurd (let z : ◌≡◌ {A = ℕ} 0 1 = cc 
 due_front None (Some t) (Some e) x p = (e, refl, not_after_is (ltb t e.element.time) e.element x p)
 
 -- all others are no earlier than the front
-front_late : (xs : List (Entry Event)) (e : Entry Event) → front xs ≡ Some e → Sorted (precedes_by event_le) xs → All (Late e.element.time) (rest xs)
+front_late : (xs : List (Entry Event)) (e : Entry Event) → front xs ≡ Some e → Sorted (precedes_by event_le) xs → AllByRecursion (Late e.element.time) (rest xs)
 front_late [] e p s = tt
 front_late (x ∷ xs) e p s =
     let same : x ≡ e = cc in
-    subst (λ (y : Entry Event). All (Late y.element.time) xs) same (All-weaker (λ y. precedes_by event_le x y ≡ true) (Late x.element.time) (λ y h. grind (arith, nat_tests)) xs (front_before (precedes_by event_le) stamp_of event_strict x xs s))
+    subst (λ (y : Entry Event). AllByRecursion (Late y.element.time) xs) same (All-weaker (λ y. precedes_by event_le x y ≡ true) (Late x.element.time) (λ y h. grind (arith, nat_tests)) xs (front_before (precedes_by event_le) stamp_of event_strict x xs s))
 
-late_front : (t : ℕ) (xs : List (Entry Event)) (e : Entry Event) → front xs ≡ Some e → All (Late t) xs → t ≤ e.element.time
+late_front : (t : ℕ) (xs : List (Entry Event)) (e : Entry Event) → front xs ≡ Some e → AllByRecursion (Late t) xs → t ≤ e.element.time
 late_front t [] e p h = absurd (let z : ◌≡◌ {A = ℕ} 0 1 = cc in omega arith)
 late_front t (x ∷ xs) e p h = let same : x ≡ e = cc in subst (Late t) same h.0
 
@@ -65,7 +65,7 @@ sound_taken m e p h =
     subst (λ (o : Option (Entry Event)). Kept e.element.time (record { state = take_after s 0 (Ok o); bounds = m.events.bounds; taken = m.events.taken + 1 }) m.lines.state m.records) (sym p) (record {
       events_tidy = tidy_take event_le event_strict s h.events_tidy 0 (Some e) p;
       lines_tidy = h.lines_tidy;
-      late = subst (All (Late e.element.time)) (sym (get_or-set_same s.lists 0 (rest (list_of s 0)) [] (omega (arith, h.events_tidy.queues)))) (front_late (list_of s 0) e p (sorted_at event_le event_strict s h.events_tidy 0));
+      late = subst (AllByRecursion (Late e.element.time)) (sym (get_or-set_same s.lists 0 (rest (list_of s 0)) [] (omega (arith, h.events_tidy.queues)))) (front_late (list_of s 0) e p (sorted_at event_le event_strict s h.events_tidy 0));
       rising = h.rising;
       past = let le = late_front m.instant (list_of s 0) e p h.late in All-weaker (λ (r : Record). r.at ≤ m.instant) (λ (r : Record). r.at ≤ e.element.time) (λ r q. omega arith) m.records h.past;
       spent = omega (arith, h.spent, (adds_up event_le).take s 0 e p);

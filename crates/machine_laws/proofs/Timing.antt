@@ -1,6 +1,6 @@
 -- Both stores stay in order, records are told in time, and events that were taken do not come back.
 use Rattle.std.proofs.Common.{◌≡◌, ℕ, ◌+◌, ◌<◌, ◌≤◌, ◌⊎◌, List, [], ◌∷◌, ◌++◌, length, Some, None, Option, sym, refl, subst, inl, inr, le_refl, arith}
-use Rattle.std.specs.List.{AllByRecursion as All}
+use Rattle.std.specs.List.{AllByRecursion}
 use Rattle.std.proofs.ByRecursion.{All-push}
 use Rattle.std.proofs.lemmas.List.{get_or-set_same, get_or-set_other}
 use Rattle.std.proofs.lemmas.Bool.{cases_eq, leb-false, eqb-false}
@@ -40,16 +40,16 @@ Late t e = t ≤ e.element.time
 pub record Kept (t : ℕ) (events : Store Event) (lines : State LineEntry) (rs : List Record) : Type 0 where
   pub events_tidy : Tidy event_le events.state
   pub lines_tidy : Tidy line_le lines
-  pub late : All (Late t) (list_of events.state 0)
+  pub late : AllByRecursion (Late t) (list_of events.state 0)
   pub rising : Rising rs
-  pub past : All (λ (r : Record). r.at ≤ t) rs
+  pub past : AllByRecursion (λ (r : Record). r.at ≤ t) rs
   pub spent : live events.state + events.taken ≤ events.state.next
   pub stamps : events.state.next ≤ events.bounds.stamps
 
 abbrev pub Sound : Machine → Type 0
 Sound m = Kept m.instant m.events m.lines.state m.records
 
-rising_push : (rs : List Record) (x : Record) → Rising rs → All (λ (r : Record). r.at ≤ x.at) rs → Rising (rs ++ (x ∷ []))
+rising_push : (rs : List Record) (x : Record) → Rising rs → AllByRecursion (λ (r : Record). r.at ≤ x.at) rs → Rising (rs ++ (x ∷ []))
 rising_push [] x h p = (tt, tt)
 rising_push (r ∷ rs) x h p = (All-push (λ (y : Record). r.at ≤ y.at) rs x h.0 p.0, rising_push rs x h.1 p.1)
 
@@ -61,14 +61,14 @@ module _ (k : ℕ) (s : State Event) where
   abbrev cancelled_events : Option ℕ → State Event
   cancelled_events o = cancel_after s k (found 0 o)
 
-  cancelled_late : (t q : ℕ) → 0 < length s.lists → All (Late t) (list_of s 0) → All (Late t) (list_of (cancelled_events (Some q)) 0)
+  cancelled_late : (t q : ℕ) → 0 < length s.lists → AllByRecursion (Late t) (list_of s 0) → AllByRecursion (Late t) (list_of (cancelled_events (Some q)) 0)
   cancelled_late t q lt h = go (cases_eq 0 q)
     where
-      go : (0 ≡ q) ⊎ (0 ≡ q → ⊥) → All (Late t) (list_of (cancelled_events (Some q)) 0)
-      go (inl e) = subst (λ j. All (Late t) (list_of (cancelled_events (Some j)) 0)) e (subst (All (Late t)) (sym (get_or-set_same s.lists 0 (without stamp_of k (list_of s 0)) [] lt)) (all_without (Late t) stamp_of k (list_of s 0) h))
-      go (inr e) = subst (All (Late t)) (sym (get_or-set_other s.lists q 0 (without stamp_of k (list_of s q)) [] e)) h
+      go : (0 ≡ q) ⊎ (0 ≡ q → ⊥) → AllByRecursion (Late t) (list_of (cancelled_events (Some q)) 0)
+      go (inl e) = subst (λ j. AllByRecursion (Late t) (list_of (cancelled_events (Some j)) 0)) e (subst (AllByRecursion (Late t)) (sym (get_or-set_same s.lists 0 (without stamp_of k (list_of s 0)) [] lt)) (all_without (Late t) stamp_of k (list_of s 0) h))
+      go (inr e) = subst (AllByRecursion (Late t)) (sym (get_or-set_other s.lists q 0 (without stamp_of k (list_of s q)) [] e)) h
 
-  cancelled_by : (t : ℕ) (o : Option ℕ) → queue_with k s.lists 0 ≡ o → 0 < length s.lists → All (Late t) (list_of s 0) → All (Late t) (list_of (cancelled_events o) 0)
+  cancelled_by : (t : ℕ) (o : Option ℕ) → queue_with k s.lists 0 ≡ o → 0 < length s.lists → AllByRecursion (Late t) (list_of s 0) → AllByRecursion (Late t) (list_of (cancelled_events o) 0)
   cancelled_by t None e lt h = h
   cancelled_by t (Some q) e lt h = cancelled_late t q lt h
 
@@ -95,7 +95,7 @@ keeps = record {
       record {
         events_tidy = tidy_put event_le event_strict s h.events_tidy 0 x (omega arith);
         lines_tidy = h.lines_tidy;
-        late = subst (All (Late m.instant)) (sym (get_or-set_same s.lists 0 _ [] inside)) (all_insert (Late m.instant) (precedes_by event_le) (record { element = x; stamp = s.next }) (list_of s 0) late h.late);
+        late = subst (AllByRecursion (Late m.instant)) (sym (get_or-set_same s.lists 0 _ [] inside)) (all_insert (Late m.instant) (precedes_by event_le) (record { element = x; stamp = s.next }) (list_of s 0) late h.late);
         rising = h.rising;
         past = h.past;
         spent = omega (arith, h.spent, (adds_up event_le).put s 0 x s.next inside);

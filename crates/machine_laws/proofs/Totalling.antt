@@ -1,6 +1,6 @@
 -- What the calls of a store do to the sum of something over its entries.
 use Rattle.std.proofs.Common.{◌≡◌, ℕ, zero, suc, ◌+◌, ◌<◌, ◌≤◌, Bool, true, false, cond, eqb, ◌⊎◌, List, [], ◌∷◌, length, get_or, set, Some, None, Ok, sum_by, Option, sym, refl, ap, ◌∙◌, subst, inl, inr, add-zero, zero-add, arith}
-use Rattle.std.specs.List.{AllByRecursion as All}
+use Rattle.std.specs.List.{AllByRecursion}
 use Rattle.std.proofs.lemmas.List.{length-set, get_or-set_other}
 use Rattle.std.proofs.lemmas.List.Sums.{sum_by-cons}
 use Rattle.std.proofs.lemmas.Bool.{cases_Bool, cond-true, cond-false, eqb-true, eq-eqb, ne_eqb}
@@ -158,7 +158,7 @@ module _ {T : Type 0} where
   only_at k f s = only_from k f k 0 s.lists (omega arith)
 
   -- what counts is somewhere in the list
-  pub find : (P : Entry T → Type 0) (f : Entry T → ℕ) (xs : List (Entry T)) → All P xs → 1 ≤ sum_by f xs → (y : Entry T) × P y × (1 ≤ f y)
+  pub find : (P : Entry T → Type 0) (f : Entry T → ℕ) (xs : List (Entry T)) → AllByRecursion P xs → 1 ≤ sum_by f xs → (y : Entry T) × P y × (1 ≤ f y)
   find P f [] h le = absurd (omega arith)
   find P f (x ∷ xs) h le = go (f x) refl (find P f xs h.1)
     where

@@ -1,6 +1,6 @@
 -- An order is withdrawn: its entry leaves the line, or its finish the events.
 use Rattle.std.proofs.Common.{◌≡◌, ℕ, ◌<◌, ◌≤◌, Bool, true, false, cond, ◌&&◌, eqb, ltb, List, [], ◌∷◌, Some, None, Option, sym, refl, ap, ◌∙◌, subst, arith}
-use Rattle.std.specs.List.{AllByRecursion as All}
+use Rattle.std.specs.List.{AllByRecursion}
 use Rattle.std.proofs.ByRecursion.{All-set}
 use Rattle.std.proofs.lemmas.Bool.{eq-eqb, eqb-true, and_parts}
 use Rattle.std.proofs.lemmas.Bool.Decides.{nat_tests}
@@ -34,9 +34,9 @@ use Rattle.machine_laws.proofs.Spending.{Written, base_marked, roomy}
 use Rattle.machine_laws.proofs.Holding.{base_kept, is_declared}
 
 module _ {T : Type 0} (P : Entry T → Type 0) (s : State T) (k : ℕ) where
-  all_cancelled : (o : Option ℕ) → All (All P) s.lists → All (All P) (cancel_after s k (found 0 o)).lists
+  all_cancelled : (o : Option ℕ) → AllByRecursion (AllByRecursion P) s.lists → AllByRecursion (AllByRecursion P) (cancel_after s k (found 0 o)).lists
   all_cancelled None h = h
-  all_cancelled (Some q) h = All-set (All P) s.lists q _ (all_without P stamp_of k (list_of s q) (all_get (All P) s.lists q [] h tt)) h
+  all_cancelled (Some q) h = All-set (AllByRecursion P) s.lists q _ (all_without P stamp_of k (list_of s q) (all_get (AllByRecursion P) s.lists q [] h tt)) h
 
 next_kept : {T : Type 0} (s : State T) (k : ℕ) (o : Option ℕ) → (cancel_after s k (found 0 o)).next ≡ s.next
 next_kept s k None = refl

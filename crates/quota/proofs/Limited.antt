@@ -1,6 +1,6 @@
 -- What one more limit on each queue changes of the calls.
 use Rattle.std.proofs.Common.{◌≡◌, ℕ, zero, suc, ◌+◌, ◌<◌, ◌≤◌, max, Bool, true, false, cond, leb, List, [], ◌∷◌, length, get_or, Ok, Err, Option, Result, sym, refl, ap, ◌∙◌, inl, inr, arith}
-use Rattle.std.specs.List.{AllByRecursion as All}
+use Rattle.std.specs.List.{AllByRecursion}
 use Rattle.std.proofs.ByRecursion.{All-weaker, All-get_or}
 use Rattle.std.proofs.lemmas.Bool.Decides.{nat_tests}
 use Rattle.std.proofs.lemmas.Bool.{cond-true, cond-false, cases_Bool, lt-leb}
@@ -35,7 +35,7 @@ reached_at_most h (p ∷ ps) n a =
 higher : (h : ℕ) (ps : List Pair) → AtMost h ps → AtMost (h + 1) ps
 higher h ps a = All-weaker _ _ (λ (p : Pair) (b : p.height ≤ h). omega (arith, b)) ps a
 
-heights_added : (ls : List ℕ) (h : ℕ) (pss : List (List Pair)) → All (AtMost h) pss → All (AtMost (h + 1)) (added ls (h + 1) pss)
+heights_added : (ls : List ℕ) (h : ℕ) (pss : List (List Pair)) → AllByRecursion (AtMost h) pss → AllByRecursion (AtMost (h + 1)) (added ls (h + 1) pss)
 unfolding added
 heights_added [] h [] a = tt
 heights_added [] h (ps ∷ pss) a = (higher h ps a.0, heights_added [] h pss a.1)

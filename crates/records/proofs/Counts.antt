@@ -1,6 +1,6 @@
 -- Which cells are empty, and how many have a stamp, as cells are filled, emptied and moved.
 use Rattle.std.proofs.Common.{◌≡◌, ℕ, zero, suc, ◌+◌, ◌<◌, ◌≤◌, true, false, cond, eqb, List, [], ◌∷◌, map, length, get_or, set, replicate, is_some, Some, None, count_by, sym, refl, ap, ◌∙◌, subst, arith}
-use Rattle.std.specs.List.{HoldsAt, AllByRecursion as All}
+use Rattle.std.specs.List.{HoldsAt, AllByRecursion}
 use Rattle.std.proofs.ByRecursion.{All-get_or}
 use Rattle.std.proofs.lemmas.List.Filters.{length-filter_both}
 use Rattle.std.proofs.lemmas.List.Sums.{sum_by-cons, sum_by-set, length-filter, get_or-le-sum_by}
@@ -38,7 +38,7 @@ module _ {T : Type 0} where
   pub stamp_is : (k : ℕ) (cs : List (Cell T)) (i : ℕ) (r : Record T) → StampedAt k cs (Some (i, r)) → r.entry.stamp ≡ k
   stamp_is k cs i r h = eqb-true r.entry.stamp k (ap (has_stamp k) (sym (h.1.1 None)) ∙ (position_some (has_stamp k) cs i h.0).1 None)
 
-  pub numbered_at : (cs : List (Cell T)) (i : ℕ) (r : Record T) → Holds cs i r → All Numbered cs → r.queue < 32
+  pub numbered_at : (cs : List (Cell T)) (i : ℕ) (r : Record T) → Holds cs i r → AllByRecursion Numbered cs → r.queue < 32
   numbered_at cs i r h n = subst Numbered (h.1 None) (All-get_or Numbered cs i None h.0 n)
 
   -- an empty cell gets the record r
@@ -74,7 +74,7 @@ module _ {T : Type 0} where
   numbered_here a b None l h = tt
   numbered_here a b (Some r) l h = elim (eqb r.queue b) as (λ t. cond t a r.queue < 32) [ true ↦ l | false ↦ h ]
 
-  pub numbered_moved : (a b : ℕ) (cs : List (Cell T)) → a < 32 → All Numbered cs → All Numbered (map (moved a b) cs)
+  pub numbered_moved : (a b : ℕ) (cs : List (Cell T)) → a < 32 → AllByRecursion Numbered cs → AllByRecursion Numbered (map (moved a b) cs)
   numbered_moved a b [] l h = tt
   numbered_moved a b (c ∷ cs) l h = (numbered_here a b c l h.0, numbered_moved a b cs l h.1)
 
@@ -84,6 +84,6 @@ module _ (T : Type 0) where
   stamped_clear k zero = refl
   stamped_clear k (suc n) = omega (arith, stamped_cons {T = T} k None (replicate n None), stamped_clear k n)
 
-  pub numbered_clear : (n : ℕ) → All (Numbered {T = T}) (replicate n None)
+  pub numbered_clear : (n : ℕ) → AllByRecursion (Numbered {T = T}) (replicate n None)
   numbered_clear zero = tt
   numbered_clear (suc n) = (tt, numbered_clear n)

@@ -1,6 +1,6 @@
 -- A list with one part for the number of each queue.
 use Rattle.std.proofs.Common.{◌≡◌, ℕ, zero, suc, ◌+◌, ◌<◌, ◌≤◌, Bool, true, false, cond, ◌&&◌, eqb, ltb, leb, ◌⊎◌, List, map, length, get_or, set, replicate, Some, None, sum_by, sym, refl, ap, ◌∙◌, subst, inl, inr, arith}
-use Rattle.std.specs.List.{range_with_len, AllByRecursion as All}
+use Rattle.std.specs.List.{range_with_len, AllByRecursion}
 use Rattle.std.proofs.lemmas.List.{ext_get_or, length-set, length-replicate, get_or-replicate, get_or-set_same, get_or-set_other}
 use Rattle.std.proofs.ByRecursion.{All-from_get_or}
 use Rattle.std.proofs.lemmas.List.FromFn.{length-map-range_with_len, get_or-map-range_with_len}
@@ -46,7 +46,7 @@ module _ {A : Type 0} where
       go k n (inl e) = cond-true (eqb k b) (f b) (g k) (eq-eqb k b e) ∙ ap f (sym e)
       go k n (inr e) = aside k e ∙ o k n e
 
-  pub all_by_queue : (P : A → Type 0) (f : ℕ → A) → ((k : ℕ) → P (f k)) → All P (by_queue f)
+  pub all_by_queue : (P : A → Type 0) (f : ℕ → A) → ((k : ℕ) → P (f k)) → AllByRecursion P (by_queue f)
   all_by_queue P f h = All-from_get_or P (by_queue f) (f 0) (λ i l. subst P (sym (get_by_queue f i (f 0) (omega (arith, l, length_by_queue f)))) (h i))
 
   pub alike_by_queue : (f : ℕ → A) (x : A) → ((k : ℕ) → f k ≡ x) → by_queue f ≡ replicate 32 x

@@ -1,6 +1,6 @@
 -- What all queues have together, as the cells say it.
 use Rattle.std.proofs.Common.{◌≡◌, ℕ, Bool, cond, eqb, List, [], ◌∷◌, length, is_some, Some, None, sum_by, refl, arith}
-use Rattle.std.specs.List.{AllByRecursion as All}
+use Rattle.std.specs.List.{AllByRecursion}
 use Rattle.std.proofs.lemmas.List.Sums.{sum_by-cons}
 use Rattle.elements.specs.declared.entries.Entry.{Entry}
 use Rattle.elements.specs.Order.{stamp_of}
@@ -16,14 +16,14 @@ module _ {T : Type 0} (le : T → T → Bool) where
   unfolding by_queue
   none_by_queue h e = omega (arith, e)
 
-  pub live_is : (cs : List (Cell T)) → All Numbered cs → sum_by length (lists_of le cs) ≡ occupied cs
+  pub live_is : (cs : List (Cell T)) → AllByRecursion Numbered cs → sum_by length (lists_of le cs) ≡ occupied cs
   live_is [] h = none_by_queue length refl
   live_is (None ∷ cs) h = omega (arith, live_is cs h.1, sum_by-cons (λ (c : Cell T). cond {A = ℕ} (is_some c) 1 0) None cs)
   live_is (Some r ∷ cs) h =
       let s = sum_by_queue length (λ q. queue_of le q cs) (λ q. queue_of le q (Some r ∷ cs)) r.queue 1 h.0 (λ q. length_record le q r (queue_of le q cs)) in
       omega (arith, s, live_is cs h.1, sum_by-cons (λ (c : Cell T). cond {A = ℕ} (is_some c) 1 0) (Some r) cs)
 
-  pub tallies_are : (k : ℕ) (cs : List (Cell T)) → All Numbered cs → sum_by (λ xs. tally stamp_of xs k) (lists_of le cs) ≡ stamped k cs
+  pub tallies_are : (k : ℕ) (cs : List (Cell T)) → AllByRecursion Numbered cs → sum_by (λ xs. tally stamp_of xs k) (lists_of le cs) ≡ stamped k cs
   tallies_are k [] h = none_by_queue (λ xs. tally stamp_of xs k) refl
   tallies_are k (None ∷ cs) h = omega (arith, tallies_are k cs h.1, stamped_cons {T = T} k None cs)
   tallies_are k (Some r ∷ cs) h =

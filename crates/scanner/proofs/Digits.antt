@@ -1,6 +1,6 @@
 -- Digits in front of what is no digit.
 use Rattle.std.proofs.Common.{◌≡◌, ℕ, ◌+◌, ◌-◌, ◌*◌, ◌^◌, ◌<◌, ◌≤◌, min, ◌⊎◌, List, [], ◌∷◌, ◌++◌, map, length, get_or, take, drop, decimal, sym, refl, ap, ◌∙◌, subst, inl, inr, arith, take-append-drop, rules}
-use Rattle.std.specs.List.{AllByRecursion as All}
+use Rattle.std.specs.List.{AllByRecursion}
 use Rattle.std.proofs.ByRecursion.{All-more}
 use Rattle.std.proofs.lemmas.List.{take_more, drop_more, drop_all, length-take-le, get_or-take}
 use Rattle.std.proofs.lemmas.Bool.{cases_eq}
@@ -13,14 +13,14 @@ read_on_push n [] c = refl
 read_on_push n (x ∷ xs) c = read_on_push (n * 10 + (x - 48)) xs c
 
 -- one digit more
-pub digits_more : (s : List ℕ) (i : ℕ) → i < length s → All Digit (take i s) → Digit (get_or s i 0) → All Digit (take (i + 1) s)
+pub digits_more : (s : List ℕ) (i : ℕ) → i < length s → AllByRecursion Digit (take i s) → Digit (get_or s i 0) → AllByRecursion Digit (take (i + 1) s)
 digits_more s i l d h = All-more Digit s i 0 l d h
 
 pub told_more : (s : List ℕ) (i n : ℕ) → i < length s → n ≡ told (take i s) → min 4294967295 (n * 10 + (get_or s i 0 - 48)) ≡ told (take (i + 1) s)
 told_more s i n l e = rw (take_more s i 0 l, read_on_push 0 (take i s) (get_or s i 0)) (omega arith)
 
 -- digits up to what is none can be split off in one way only
-pub unique : (xs ys a b : List ℕ) → All Digit xs → All Digit ys → Stop a → Stop b → xs ++ a ≡ ys ++ b → (xs ≡ ys) × (a ≡ b)
+pub unique : (xs ys a b : List ℕ) → AllByRecursion Digit xs → AllByRecursion Digit ys → Stop a → Stop b → xs ++ a ≡ ys ++ b → (xs ≡ ys) × (a ≡ b)
 unique [] [] a b dx dy sa sb e = (refl, e)
 unique [] (y ∷ ys) [] b dx dy sa sb e = let z : ◌≡◌ {A = ℕ} 0 1 = cc in absurd (omega arith)
 unique [] (y ∷ ys) (c ∷ a) b dx dy sa sb e = let h : c ≡ y = cc in absurd (sa (subst Digit (sym h) dy.0))
@@ -32,7 +32,7 @@ unique (x ∷ xs) (y ∷ ys) a b dx dy sa sb e =
     let r = unique xs ys a b dx.1 dy.1 sa sb t in
     (cc r.0, r.1)
 
-only : (s : List ℕ) (e : ℕ) (ds rest : List ℕ) → All Digit (take e s) → Stop (drop e s) → All Digit ds → Stop rest → s ≡ ds ++ rest → (take e s ≡ ds) × (drop e s ≡ rest)
+only : (s : List ℕ) (e : ℕ) (ds rest : List ℕ) → AllByRecursion Digit (take e s) → Stop (drop e s) → AllByRecursion Digit ds → Stop rest → s ≡ ds ++ rest → (take e s ≡ ds) × (drop e s ≡ rest)
 only s e ds rest d st dd sr q = unique (take e s) ds (drop e s) rest d dd st sr (take-append-drop e s ∙ q)
 
 pub stop_here : (s : List ℕ) (e : ℕ) → e < length s → (Digit (get_or s e 0) → ⊥) → Stop (drop e s)
@@ -46,12 +46,12 @@ pub none_first : (s ds rest : List ℕ) → Stop s → Numeral ds → Stop rest 
 none_first s ds rest st p sr q = let h = unique [] ds s rest tt p.digits st sr q in omega (arith, ap length h.0, p.some)
 
 -- nor where a zero is in front of other digits
-pub zero_first : (s : List ℕ) (e : ℕ) → e ≤ length s → 1 < e → get_or s 0 0 ≡ 48 → All Digit (take e s) → Stop (drop e s) → (ds rest : List ℕ) → Numeral ds → Stop rest → s ≡ ds ++ rest → ⊥
+pub zero_first : (s : List ℕ) (e : ℕ) → e ≤ length s → 1 < e → get_or s 0 0 ≡ 48 → AllByRecursion Digit (take e s) → Stop (drop e s) → (ds rest : List ℕ) → Numeral ds → Stop rest → s ≡ ds ++ rest → ⊥
 zero_first s e l m z d st ds rest p sr q =
     let h = only s e ds rest d st p.digits sr q in
     omega (arith, length-take-le e s l, ap length h.0, p.first (ap (λ xs. get_or xs 0 0) (sym h.0) ∙ get_or-take e s 0 0 (omega arith) ∙ z))
 
-pub found_by : (s : List ℕ) (n e : ℕ) → e ≤ length s → All Digit (take e s) → n ≡ told (take e s) → Stop (drop e s) → 0 < e → (get_or s 0 0 ≡ 48 → e ≡ 1) → Found s n e
+pub found_by : (s : List ℕ) (n e : ℕ) → e ≤ length s → AllByRecursion Digit (take e s) → n ≡ told (take e s) → Stop (drop e s) → 0 < e → (get_or s 0 0 ≡ 48 → e ≡ 1) → Found s n e
 found_by s n e l d v st p f = record {
   within = l;
   numeral = record {
@@ -63,8 +63,8 @@ found_by s n e l d v st p f = record {
   number = v;
 }
 
-own : IsNumeralModel (All Digit) value
-own = numerals_by_fold (All Digit) (search rules) read_on (search rules)
+own : IsNumeralModel (AllByRecursion Digit) value
+own = numerals_by_fold (AllByRecursion Digit) (search rules) read_on (search rules)
 
 -- what is printed of a number is a numeral, of that value
 pub printed_numeral : (n : ℕ) → n < 2 ^ 64 → Numeral (decimal n)
@@ -82,7 +82,7 @@ numeral_printed : (ds : List ℕ) → Numeral ds → value ds < 2 ^ 64 → ds �
 numeral_printed ds p small = sym (decimal-digits_value own ds p.digits p.some p.first small)
 
 -- so numerals are what is printed of the numbers that are told of them, where none is the largest
-pub numerals_printed : (ds : List (List ℕ)) → All Numeral ds → All (λ n. n < 4294967295) (map told ds) → ds ≡ map decimal (map told ds)
+pub numerals_printed : (ds : List (List ℕ)) → AllByRecursion Numeral ds → AllByRecursion (λ n. n < 4294967295) (map told ds) → ds ≡ map decimal (map told ds)
 numerals_printed [] p small = refl
 numerals_printed (d ∷ ds) p small =
     let v : told d ≡ value d = omega (arith, small.0) in

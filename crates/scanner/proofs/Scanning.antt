@@ -1,7 +1,7 @@
 -- How far a line is read along a template.
 use Rattle.std.proofs.Common.{◌≡◌, ℕ, ◌+◌, ◌<◌, ◌≤◌, true, false, List, [], ◌∷◌, ◌++◌, map, length, get_or, take, drop, set, replicate, Some, None, sym, refl, ap, ◌∙◌, subst, append_assoc, append-nil, arith, length-set, take-append-drop}
 use lib.ListN.{length-replicate}
-use Rattle.std.specs.List.{AllByRecursion as All}
+use Rattle.std.specs.List.{AllByRecursion}
 use Rattle.std.proofs.ByRecursion.{All-push}
 use Rattle.std.proofs.lemmas.List.{length_push, map_push, take_more_set, take_all, drop_more, drop_all, drop-drop, length-drop}
 use Rattle.std.proofs.lemmas.Bool.{eq-eqb, ne_eqb}
@@ -13,7 +13,7 @@ use Rattle.scanner.proofs.Filling.{fill_byte, fill_next, gaps_byte, gaps_next, c
 -- `later` is still to come of the template t, and `rest` of the line; k numbers are in ns
 pub record Sofar (t line later rest ns : List ℕ) (k : ℕ) : Type 0 where
   pub numerals : List (List ℕ)
-  pub each : All Numeral numerals
+  pub each : AllByRecursion Numeral numerals
   pub count : length numerals ≡ k
   pub left : k + gaps later ≡ gaps t
   pub gives : take k ns ≡ map told numerals

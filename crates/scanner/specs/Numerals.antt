@@ -1,13 +1,13 @@
 -- Numbers as they are written: digits of base ten, and no needless zero in front.
 use Rattle.std.specs.Prelude.{◌≡◌, ℕ, ◌+◌, ◌-◌, ◌*◌, ◌<◌, ◌≤◌, min, List, [], ◌∷◌, ◌++◌, length, take, drop, Some, None, Option, ◌≢◌, slice_index_or}
-use Rattle.std.specs.List.{AllByRecursion as All}
+use Rattle.std.specs.List.{AllByRecursion}
 
 -- the bytes from 0 to 9
 abbrev pub Digit : ℕ → Type 0
 Digit c = (48 ≤ c) × (c ≤ 57)
 
 pub record Numeral (ds : List ℕ) : Type 0 where
-  pub digits : All Digit ds
+  pub digits : AllByRecursion Digit ds
   pub some : 0 < length ds
   pub first : slice_index_or ds 0 0 ≡ 48 → length ds ≡ 1
 

@@ -1,6 +1,6 @@
 -- Lines that are written by a template: bytes that stand as they are, and gaps for numerals, marked by the byte `#`.
 use Rattle.std.specs.Prelude.{◌≡◌, ℕ, ◌+◌, Bool, true, cond, not, ◌&&◌, ◌||◌, List, [], ◌∷◌, ◌++◌, map, length, Some, None, Option, ◌==◌, nat_le}
-use Rattle.std.specs.List.{AllByRecursion as All}
+use Rattle.std.specs.List.{AllByRecursion}
 use Rattle.scanner.specs.Numerals.{Numeral, told}
 
 -- the byte `#`
@@ -24,7 +24,7 @@ fill (c ∷ t) ds = cond (gap c) (fill_gap (fill t) ds) (c ∷ fill t ds)
 
 -- the line is what the template writes with these numerals, one for each gap
 pub record Filled (t line : List ℕ) (ds : List (List ℕ)) : Type 0 where
-  pub numerals : All Numeral ds
+  pub numerals : AllByRecursion Numeral ds
   pub count : length ds ≡ gaps t
   pub is : line ≡ fill t ds
 

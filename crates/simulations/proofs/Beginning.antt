@@ -1,6 +1,6 @@
 -- A draft over unused stores is the machine at its start.
 use Rattle.std.proofs.Common.{◌≡◌, ℕ, zero, suc, List, [], replicate, None, sym, ap, ◌∙◌, subst, arith}
-use Rattle.std.specs.List.{AllByRecursion as All}
+use Rattle.std.specs.List.{AllByRecursion}
 use Rattle.std.proofs.lemmas.List.{length-replicate}
 use Rattle.elements.specs.declared.events.Event.{Event}
 use Rattle.elements.specs.declared.lines.LineEntry.{LineEntry}
@@ -15,12 +15,12 @@ use Rattle.outcomes.specs.Simulation.{machine_of}
 use Rattle.simulations.specs.Conditions.{StationFit, OrderFit, NetworkFit, EventFit, LineFit, Fit, Each}
 use Rattle.simulations.specs.Drafts.{draft, nothing}
 
-all_replicate : {A : Type 0} (P : A → Type 0) (n : ℕ) (x : A) → P x → All P (replicate n x)
+all_replicate : {A : Type 0} (P : A → Type 0) (n : ℕ) (x : A) → P x → AllByRecursion P (replicate n x)
 all_replicate P zero x p = tt
 all_replicate P (suc n) x p = (p, all_replicate P n x p)
 
 each_fresh : (T : Type 0) (P : Entry T → Type 0) → Each P (fresh {T = T})
-each_fresh T P = record { queues = length-replicate {A = List (Entry T)} 32 []; entries = all_replicate (All P) 32 [] tt }
+each_fresh T P = record { queues = length-replicate {A = List (Entry T)} 32 []; entries = all_replicate (AllByRecursion P) 32 [] tt }
 
 cleared_fit : NetworkFit cleared
 cleared_fit = record {

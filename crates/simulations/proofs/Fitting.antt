@@ -1,6 +1,6 @@
 -- What calls need stays so.
 use Rattle.std.proofs.Common.{◌≡◌, ℕ, zero, suc, ◌+◌, ◌<◌, ◌≤◌, Bool, true, false, cond, eqb, List, [], ◌∷◌, get_or, set, Some, None, Ok, Err, Option, Result, ◌∙◌, subst, arith, length-set}
-use Rattle.std.specs.List.{AllByRecursion as All}
+use Rattle.std.specs.List.{AllByRecursion}
 use Rattle.elements.specs.declared.entries.Entry.{Entry}
 use Rattle.elements.specs.Order.{precedes_by, stamp_of}
 use Rattle.stores.specs.declared.refusals.Refusal.{Refusal}
@@ -14,50 +14,50 @@ use Rattle.machine.specs.Network.{no_order, order, no_station, station, marked, 
 use Rattle.simulations.specs.Conditions.{IsStation, WhenSome, StationFit, StateFit, OrderFit, NetworkFit, Each}
 
 module _ {A : Type 0} (P : A → Type 0) where
-  pub all_get : (xs : List A) (k : ℕ) (d : A) → All P xs → P d → P (get_or xs k d)
+  pub all_get : (xs : List A) (k : ℕ) (d : A) → AllByRecursion P xs → P d → P (get_or xs k d)
   all_get [] k d h z = z
   all_get (x ∷ xs) zero d h z = h.0
   all_get (x ∷ xs) (suc k) d h z = all_get xs k d h.1 z
 
-  pub all_set : (xs : List A) (k : ℕ) (y : A) → All P xs → P y → All P (set xs k y)
+  pub all_set : (xs : List A) (k : ℕ) (y : A) → AllByRecursion P xs → P y → AllByRecursion P (set xs k y)
   all_set [] k y h z = tt
   all_set (x ∷ xs) zero y h z = (z, h.1)
   all_set (x ∷ xs) (suc k) y h z = (h.0, all_set xs k y h.1 z)
 
-  either : (b : Bool) (xs ys : List A) → All P xs → All P ys → All P (elim b [ true ↦ xs | false ↦ ys ])
+  either : (b : Bool) (xs ys : List A) → AllByRecursion P xs → AllByRecursion P ys → AllByRecursion P (elim b [ true ↦ xs | false ↦ ys ])
   either true xs ys p q = p
   either false xs ys p q = q
 
-  merge_at_all : (before : A → A → Bool) (x : A) (others : List A → List A) (ys : List A) → P x → ((zs : List A) → All P zs → All P (others zs)) → All P ys → All P (merge_at before x others ys)
+  merge_at_all : (before : A → A → Bool) (x : A) (others : List A → List A) (ys : List A) → P x → ((zs : List A) → AllByRecursion P zs → AllByRecursion P (others zs)) → AllByRecursion P ys → AllByRecursion P (merge_at before x others ys)
   merge_at_all before x others [] p f h = (p, f [] tt)
   merge_at_all before x others (y ∷ ys) p f h = either (before y x) (y ∷ merge_at before x others ys) (x ∷ others (y ∷ ys)) (h.0, merge_at_all before x others ys p f h.1) (p, f (y ∷ ys) h)
 
-  pub all_merge : (before : A → A → Bool) (xs ys : List A) → All P xs → All P ys → All P (merge before xs ys)
+  pub all_merge : (before : A → A → Bool) (xs ys : List A) → AllByRecursion P xs → AllByRecursion P ys → AllByRecursion P (merge before xs ys)
   all_merge before [] ys h i = i
   all_merge before (x ∷ xs) ys h i = merge_at_all before x (merge before xs) ys h.0 (λ zs z. all_merge before xs zs h.1 z) i
 
-  without_by : (b : Bool) (x : A) (xs ys : List A) → P x → All P xs → All P ys → All P (cond b xs (x ∷ ys))
+  without_by : (b : Bool) (x : A) (xs ys : List A) → P x → AllByRecursion P xs → AllByRecursion P ys → AllByRecursion P (cond b xs (x ∷ ys))
   without_by true x xs ys p h i = h
   without_by false x xs ys p h i = (p, i)
 
-  all_without : (key : A → ℕ) (k : ℕ) (xs : List A) → All P xs → All P (without key k xs)
+  all_without : (key : A → ℕ) (k : ℕ) (xs : List A) → AllByRecursion P xs → AllByRecursion P (without key k xs)
   all_without key k [] h = tt
   all_without key k (x ∷ xs) h = without_by (eqb (key x) k) x xs (without key k xs) h.0 h.1 (all_without key k xs h.1)
 
 module _ {T : Type 0} (P : Entry T → Type 0) where
-  all_rest : (xs : List (Entry T)) → All P xs → All P (rest xs)
+  all_rest : (xs : List (Entry T)) → AllByRecursion P xs → AllByRecursion P (rest xs)
   all_rest [] h = tt
   all_rest (x ∷ xs) h = h.1
 
-  front_is : (xs : List (Entry T)) (e : Entry T) → All P xs → Some e ≡ front xs → P e
+  front_is : (xs : List (Entry T)) (e : Entry T) → AllByRecursion P xs → Some e ≡ front xs → P e
   front_is [] e h z = let y : ◌≡◌ {A = ℕ} 0 1 = cc in absurd (omega arith)
   front_is (x ∷ xs) e h z = let y : x ≡ e = cc in subst P y h.0
 
-  pub each_at : (s : State T) (q : ℕ) → Each P s → All P (list_of s q)
-  each_at s q h = all_get (All P) s.lists q [] h.entries tt
+  pub each_at : (s : State T) (q : ℕ) → Each P s → AllByRecursion P (list_of s q)
+  each_at s q h = all_get (AllByRecursion P) s.lists q [] h.entries tt
 
-  each_with : (s : State T) (q n : ℕ) (xs : List (Entry T)) → Each P s → All P xs → Each P (record { lists = set s.lists q xs; next = n })
-  each_with s q n xs h a = record { queues = length-set s.lists q xs ∙ h.queues; entries = all_set (All P) s.lists q xs h.entries a }
+  each_with : (s : State T) (q n : ℕ) (xs : List (Entry T)) → Each P s → AllByRecursion P xs → Each P (record { lists = set s.lists q xs; next = n })
+  each_with s q n xs h a = record { queues = length-set s.lists q xs ∙ h.queues; entries = all_set (AllByRecursion P) s.lists q xs h.entries a }
 
   pub each_put : (le : T → T → Bool) (s : State T) (q : ℕ) (x : T) (r : Result ℕ Refusal) → ((n : ℕ) → P (record { element = x; stamp = n })) → Each P s → Each P (put_after le s q x r)
   each_put le s q x (Err f) p h = h

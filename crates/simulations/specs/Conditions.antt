@@ -1,6 +1,6 @@
 -- What every call over a network and its two stores needs and keeps: whatever is named in them exists.
 use Rattle.std.specs.Prelude.{◌≡◌, ℕ, ◌<◌, ◌≤◌, length, Some, None, Option}
-use Rattle.std.specs.List.{AllByRecursion as All}
+use Rattle.std.specs.List.{AllByRecursion}
 use Rattle.elements.specs.declared.events.Event.{Event}
 use Rattle.elements.specs.declared.events.EventKind.{EventKind}
 use Rattle.elements.specs.declared.events.EventKind.TheVariants.{Arrive, Finish, Withdraw, Close}
@@ -50,8 +50,8 @@ OrderFit o = StateFit o.state
 pub record NetworkFit (n : Network) : Type 0 where
   pub stations : length n.stations ≡ 32
   pub orders : length n.orders ≡ 1024
-  pub each_station : All StationFit n.stations
-  pub each_order : All OrderFit n.orders
+  pub each_station : AllByRecursion StationFit n.stations
+  pub each_order : AllByRecursion OrderFit n.orders
 
 abbrev pub KindFit : EventKind → Type 0
 KindFit (Arrive i k) = IsOrder i × IsStation k
@@ -68,7 +68,7 @@ LineFit e = IsOrder e.element.order
 -- 32 queues, and P holds of each entry in them
 pub record Each {T : Type 0} (P : Entry T → Type 0) (s : State T) : Type 0 where
   pub queues : length s.lists ≡ 32
-  pub entries : All (All P) s.lists
+  pub entries : AllByRecursion (AllByRecursion P) s.lists
 
 pub record Fit (s : Simulation) : Type 0 where
   pub network : NetworkFit s.control.network

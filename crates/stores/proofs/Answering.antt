@@ -1,6 +1,6 @@
 -- What the calls answer, a way at a time, and what a refused call promises.
 use Rattle.std.proofs.Common.{◌≡◌, ℕ, zero, suc, ◌+◌, ◌<◌, ◌≤◌, Bool, true, false, cond, ◌||◌, eqb, leb, List, [], get_or, replicate, None, Ok, Err, Option, Result, sym, refl, ap, ◌∙◌, arith}
-use Rattle.std.specs.List.{AllByRecursion as All}
+use Rattle.std.specs.List.{AllByRecursion}
 use Rattle.std.proofs.lemmas.Bool.{lt-leb, le-leb, eq-eqb, ne_eqb}
 use Rattle.elements.specs.declared.entries.Entry.{Entry}
 use Rattle.stores.specs.declared.refusals.Refusal.{Refusal}
@@ -14,12 +14,12 @@ none_at zero q = refl
 none_at (suc n) zero = refl
 none_at (suc n) (suc q) = none_at n q
 
-all_none : (h n : ℕ) → All (AtMost h) (replicate n [])
+all_none : (h n : ℕ) → AllByRecursion (AtMost h) (replicate n [])
 all_none h zero = tt
 all_none h (suc n) = (tt, all_none h n)
 
 -- a store with no limits has none above any height, and none is ever reached
-pub no_heights : (h : ℕ) → All (AtMost h) (replicate 32 [])
+pub no_heights : (h : ℕ) → AllByRecursion (AtMost h) (replicate 32 [])
 no_heights h = all_none h 32
 
 pub unlimited : (c s q n : ℕ) → reached (limits_of (bare_fixed c s) q) n ≡ false

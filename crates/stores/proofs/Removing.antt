@@ -1,6 +1,6 @@
 -- An entry leaves a sorted list: from the front, or by its key.
 use Rattle.std.proofs.Common.{◌≡◌, ℕ, ◌+◌, Bool, true, false, cond, eqb, List, [], ◌∷◌, length, arith}
-use Rattle.std.specs.List.{AllByRecursion as All}
+use Rattle.std.specs.List.{AllByRecursion}
 use Rattle.elements.specs.declared.entries.Entry.{Entry}
 use Rattle.elements.specs.Order.{Strict}
 use Rattle.stores.specs.SortedLists.{has, without, Leads, Sorted}
@@ -12,7 +12,7 @@ module _ {A : Type 0} (before : A → A → Bool) (key : A → ℕ) (law : Stric
   leads_on x y (z ∷ xs) h p = law.transitive x y z h p
 
   -- the front of a sorted list is before all others
-  pub front_before : (x : A) (xs : List A) → Sorted before (x ∷ xs) → All (λ y. before x y ≡ true) xs
+  pub front_before : (x : A) (xs : List A) → Sorted before (x ∷ xs) → AllByRecursion (λ y. before x y ≡ true) xs
   front_before x [] s = tt
   front_before x (y ∷ xs) s = (s.0, front_before x xs (leads_on x y xs s.0 s.1.0, s.1.1))
 

@@ -1,6 +1,6 @@
 -- Laws of the definitions: what sorted insertion, joining and removal keep, and how the counts add up.
 use Rattle.std.specs.Prelude.{◌≡◌, ℕ, ◌+◌, ◌<◌, ◌≤◌, Bool, true, List, [], ◌∷◌, length, Some, Ok, count_by, ◌≢◌}
-use Rattle.std.specs.List.{AllByRecursion as All}
+use Rattle.std.specs.List.{AllByRecursion}
 use Rattle.elements.specs.declared.entries.Entry.{Entry}
 use Rattle.elements.specs.Order.{precedes_by, stamp_of}
 use Rattle.stores.specs.SortedLists.{merge, insert, without, tally, Sorted}
@@ -35,4 +35,4 @@ module _ {T : Type 0} (le : T → T → Bool) where
 
   -- the front of a sorted list precedes all others
   abbrev pub FrontPrecedes : Type 0
-  FrontPrecedes = (x : Entry T) (xs : List (Entry T)) → Sorted (precedes_by le) (x ∷ xs) → All (λ y. precedes_by le x y ≡ true) xs
+  FrontPrecedes = (x : Entry T) (xs : List (Entry T)) → Sorted (precedes_by le) (x ∷ xs) → AllByRecursion (λ y. precedes_by le x y ≡ true) xs

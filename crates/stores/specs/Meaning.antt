@@ -1,6 +1,6 @@
 -- What a store means: 32 sorted queues of entries and the next stamp, beside what never changes, and what is held.
 use Rattle.std.specs.Prelude.{◌≡◌, ℕ, ◌+◌, ◌≤◌, max, Bool, true, false, cond, List, [], ◌∷◌, length, replicate, sum_by, nat_le, nat_lt, slice_index_or}
-use Rattle.std.specs.List.{AllByRecursion as All}
+use Rattle.std.specs.List.{AllByRecursion}
 use Rattle.elements.specs.declared.entries.Entry.{Entry}
 use Rattle.elements.specs.Order.{precedes_by, stamp_of}
 use Rattle.stores.specs.SortedLists.{tally, Sorted}
@@ -62,12 +62,12 @@ pub record Sizes (cells stamps : ℕ) : Type 0 where
   pub few_stamps : stamps ≤ 32768
 
 abbrev pub AtMost : ℕ → List Pair → Type 0
-AtMost h ps = All (λ p. p.height ≤ h) ps
+AtMost h ps = AllByRecursion (λ p. p.height ≤ h) ps
 
 -- what holds of every store at any time
 pub record WellFormed {T : Type 0} (le : T → T → Bool) (m : Meaning T) : Type 0 where
   pub queues : length m.state.lists ≡ 32
-  pub sorted : All (Sorted (precedes_by le)) m.state.lists
+  pub sorted : AllByRecursion (Sorted (precedes_by le)) m.state.lists
   -- every stamp is below the next, and no two entries of the whole store have the same
   pub stamps : (k : ℕ) → sum_by (λ xs. tally stamp_of xs k) m.state.lists ≤ cond (nat_lt k m.state.next) 1 0
   pub issued : m.state.next ≤ m.fixed.stamps
@@ -75,7 +75,7 @@ pub record WellFormed {T : Type 0} (le : T → T → Bool) (m : Meaning T) : Typ
   -- nothing is held while every queue is empty
   pub idle : live m.state ≡ 0 → m.held ≡ 0
   pub limited : length m.fixed.pairs ≡ 32
-  pub heights : All (AtMost m.fixed.height) m.fixed.pairs
+  pub heights : AllByRecursion (AtMost m.fixed.height) m.fixed.pairs
   pub sizes : Sizes m.fixed.cells m.fixed.stamps
   pub low : m.fixed.height ≤ 255
 

@@ -1,6 +1,6 @@
 -- What a sound table stands for: it is well-formed, its questions are answered, and a new one is empty.
 use Rattle.std.proofs.Common.{◌≡◌, ℕ, ◌<◌, ◌≤◌, Bool, List, length, replicate, is_some, Some, None, Ok, sym, refl, ap, ◌∙◌, subst, arith}
-use Rattle.std.specs.List.{AllByRecursion as All}
+use Rattle.std.specs.List.{AllByRecursion}
 use Rattle.std.proofs.lemmas.List.{length-replicate}
 use Rattle.std.proofs.lemmas.List.Sums.{count_by-le-length}
 use Rattle.std.proofs.lemmas.Bool.Decides.{nat_tests}
@@ -58,7 +58,7 @@ module _ {T : Type 0} (n cells stamps : ℕ) (cs : List (Cell T)) (fit : Fit n c
   made_sound = record {
     sizes = subst (λ m. Sizes m stamps) (sym made_long) fit.sizes;
     issued = omega arith;
-    numbered = subst (All Numbered) (sym clear) (numbered_clear T n);
+    numbered = subst (AllByRecursion Numbered) (sym clear) (numbered_clear T n);
     marked = λ k. omega (arith, ap (stamped k) clear, stamped_clear T k n);
   }
 

@@ -1,6 +1,6 @@
 -- What a table stands for, when it is sound, and what it can be made of.
 use Rattle.std.specs.Prelude.{◌≡◌, ℕ, ◌≤◌, Bool, cond, List, length, nat_lt}
-use Rattle.std.specs.List.{AllByRecursion as All}
+use Rattle.std.specs.List.{AllByRecursion}
 use Rattle.stores.specs.Meaning.{Meaning, Sizes, bare_fixed}
 use Rattle.records.specs.Cells.{Cell, Numbered, lists_of, stamped}
 use Rattle.table.specs.declared.Table.{Table}
@@ -19,7 +19,7 @@ meaning_of le t = meant le t.cells.now t.next t.stamps
 pub record Sound {T : Type 0} (cs : List (Cell T)) (next stamps : ℕ) : Type 0 where
   pub sizes : Sizes (length cs) stamps
   pub issued : next ≤ stamps
-  pub numbered : All Numbered cs
+  pub numbered : AllByRecursion Numbered cs
   -- every stamp is below the next, and no two entries have the same
   pub marked : (k : ℕ) → stamped k cs ≤ cond (nat_lt k next) 1 0
 

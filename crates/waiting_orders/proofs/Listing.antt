@@ -1,6 +1,6 @@
 -- Lines tell one list of orders, or one line is the first that tells none.
 use Rattle.std.proofs.Common.{◌≡◌, ℕ, suc, ◌+◌, List, [], ◌∷◌, ◌++◌, map, length, Ok, Err, sym, refl, ap, ◌∙◌, subst, arith}
-use Rattle.std.specs.List.{AllByRecursion as All}
+use Rattle.std.specs.List.{AllByRecursion}
 use Rattle.elements.specs.declared.lines.LineEntry.{LineEntry}
 use Rattle.waiting_orders.specs.declared.Unreadable.{Unreadable}
 use Rattle.waiting_orders.specs.Forms.{numbers_of, written, InRange, Reads}
@@ -19,7 +19,7 @@ not_written x line why r u e =
     let z : ◌≡◌ {A = ℕ} 0 1 = cc in
     omega arith
 
-same_all : (xs ys : List LineEntry) → All Range xs → All Range ys → map written xs ≡ map written ys → xs ≡ ys
+same_all : (xs ys : List LineEntry) → AllByRecursion Range xs → AllByRecursion Range ys → map written xs ≡ map written ys → xs ≡ ys
 same_all [] [] r s e = refl
 same_all [] (y ∷ ys) r s e = let z : ◌≡◌ {A = ℕ} 0 1 = cc in absurd (omega arith)
 same_all (x ∷ xs) [] r s e = let z : ◌≡◌ {A = ℕ} 0 1 = cc in absurd (omega arith)
@@ -35,7 +35,7 @@ listed_once lines xs ys l m = same_all xs ys l.ranges m.ranges (sym l.is ∙ m.i
 
 -- a line that tells none stands in no list of orders
 module _ (line : List ℕ) (why : Unreadable) (unread : Reads line (Err why)) (behind : List (List ℕ)) where
-  not_all : (xs before : List LineEntry) → All Range xs → map written xs ≡ map written before ++ line ∷ behind → ⊥
+  not_all : (xs before : List LineEntry) → AllByRecursion Range xs → map written xs ≡ map written before ++ line ∷ behind → ⊥
   not_all [] [] r e = let z : ◌≡◌ {A = ℕ} 0 1 = cc in omega arith
   not_all [] (b ∷ bs) r e = let z : ◌≡◌ {A = ℕ} 0 1 = cc in omega arith
   not_all (x ∷ xs) [] r e = not_written x line why r.0 unread cc
@@ -45,7 +45,7 @@ pub listed_not_broken : (lines : List (List ℕ)) (xs : List LineEntry) (n : ℕ
 listed_not_broken lines xs n why l b = not_all b.line why b.unread b.behind xs b.before l.ranges (sym l.is ∙ b.is)
 
 module _ (l m : List ℕ) (v w : Unreadable) (u : Reads l (Err v)) (u' : Reads m (Err w)) (ls ms : List (List ℕ)) where
-  same_first : (bs cs : List LineEntry) → All Range bs → All Range cs → map written bs ++ l ∷ ls ≡ map written cs ++ m ∷ ms → (length bs ≡ length cs) × (v ≡ w)
+  same_first : (bs cs : List LineEntry) → AllByRecursion Range bs → AllByRecursion Range cs → map written bs ++ l ∷ ls ≡ map written cs ++ m ∷ ms → (length bs ≡ length cs) × (v ≡ w)
   same_first [] [] r s e =
       let h : l ≡ m = cc in
       let o = reads_once m (Err v) (Err w) (subst (λ x. Reads x (Err v)) h u) u' in

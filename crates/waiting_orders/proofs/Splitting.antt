@@ -1,6 +1,6 @@
 -- The first line of a text, and the lines that are read so far.
 use Rattle.std.proofs.Common.{◌≡◌, ℕ, suc, ◌+◌, ◌<◌, ◌≤◌, true, false, not, ◌⊎◌, List, [], ◌∷◌, ◌++◌, map, length, get_or, take, drop, Ok, Err, sym, ap, ◌∙◌, subst, inl, inr, append_assoc, append-nil, one-add, arith}
-use Rattle.std.specs.List.{prefix_len, AllByRecursion as All}
+use Rattle.std.specs.List.{prefix_len, AllByRecursion}
 use Rattle.std.proofs.ByRecursion.{All-push}
 use Rattle.std.proofs.lemmas.List.{drop_more, drop_all, drop-drop, map_push, length-take-le, length-drop}
 use Rattle.std.proofs.lemmas.List.Sums.{prefix_len-drop_yes, prefix_len-drop_no, prefix_len-drop_all, prefix_len-le-length}
@@ -74,7 +74,7 @@ module _ (text part : List ℕ) (at n k : ℕ) (part-is : part ≡ drop at text)
 -- the lines before `at` are those of the orders
 pub record Read (text : List ℕ) (orders : List LineEntry) (at : ℕ) : Type 0 where
   pub is : lines_of text ≡ map written orders ++ lines_of (drop at text)
-  pub ranges : All (λ e. InRange (numbers_of e)) orders
+  pub ranges : AllByRecursion (λ e. InRange (numbers_of e)) orders
 
 -- `line` is the line that begins at `at`
 module _ (text line : List ℕ) (orders : List LineEntry) (at : ℕ) (here : at < length text) (so_far : Read text orders at) (line-is : line ≡ first_line (drop at text)) where

@@ -1,6 +1,6 @@
 -- A text as its lines, and a waiting line as a text: an order to a line.
 use Rattle.std.specs.Prelude.{◌≡◌, ℕ, ◌+◌, Bool, cond, not, List, [], ◌∷◌, ◌++◌, map, length, take, Err, ◌==◌}
-use Rattle.std.specs.List.{prefix_len, AllByRecursion as All}
+use Rattle.std.specs.List.{prefix_len, AllByRecursion}
 use Rattle.elements.specs.declared.lines.LineEntry.{LineEntry}
 use Rattle.waiting_orders.specs.declared.Unreadable.{Unreadable}
 use Rattle.waiting_orders.specs.declared.ReadFailure.{ReadFailure}
@@ -28,7 +28,7 @@ lines_of (c ∷ cs) = cond (inside c) (in_front c (lines_of cs)) ([] ∷ lines_o
 -- each line is that of an order
 pub record Listed (lines : List (List ℕ)) (orders : List LineEntry) : Type 0 where
   pub is : lines ≡ map written orders
-  pub ranges : All (λ e. InRange (numbers_of e)) orders
+  pub ranges : AllByRecursion (λ e. InRange (numbers_of e)) orders
 
 -- the first line that is none, the n-th, and why
 pub record Broken (lines : List (List ℕ)) (n : ℕ) (why : Unreadable) : Type 0 where
@@ -36,7 +36,7 @@ pub record Broken (lines : List (List ℕ)) (n : ℕ) (why : Unreadable) : Type 
   pub line : List ℕ
   pub behind : List (List ℕ)
   pub is : lines ≡ map written before ++ line ∷ behind
-  pub ranges : All (λ e. InRange (numbers_of e)) before
+  pub ranges : AllByRecursion (λ e. InRange (numbers_of e)) before
   pub number : n ≡ length before + 1
   pub unread : Reads line (Err why)
 

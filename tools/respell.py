@@ -22,7 +22,7 @@ with open(os.path.join(HERE, "respelled-names.txt"), encoding="utf-8") as f:
 with open(os.path.join(HERE, "respelled-fields.txt"), encoding="utf-8") as f:
     FIELDS = set(f.read().split())
 
-TOKEN = re.compile(r"(\.?)(?<![\w'\-])([A-Za-z][\w']*(?:-[\w'*]+)+)(?![\w'\-])")
+TOKEN = re.compile(r"(\.?)(?<![\w'\-])([A-Za-z][\w']*(?:-[\w'*]+)+)(?![\w'\-])(?! machine)")
 ALL = re.compile(r"(?<![\w'.\-])All(?![\w'\-])")
 STRING = re.compile(r'b?"(?:[^"\\\n]|\\.)*"')
 

@@ -2,7 +2,6 @@
 use elements::{Entry, LineEntry};
 use lazy::Lazy;
 use leftist::{Link, fits, make};
-use std::process::Abort;
 use std::test::Fail;
 use store_checks::{Answer, Call, FULL, MELDED, ORDERED, SPENT, cancelled, passes};
 use stores::{Agenda, BareHeap};
@@ -14,7 +13,7 @@ const BLANK: LineEntry = LineEntry {
 };
 
 fn run(
-    rt: &(impl Abort + AllocGlobal),
+    rt: &impl AllocGlobal,
     cells: u16,
     stamps: u16,
     script: &[(Call, Answer)],

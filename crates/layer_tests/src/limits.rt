@@ -2,12 +2,11 @@
 use elements::LineEntry;
 use piles::quota_over_quota;
 use records::Record;
-use std::process::Abort;
 use std::test::Fail;
 use store_checks::{Answer, Call, passes};
 use table::make;
 
-fn run(rt: &impl Abort, inner: u16, outer: u16, script: &[(Call, Answer)]) -> Result<(), Fail> {
+fn run(inner: u16, outer: u16, script: &[(Call, Answer)]) -> Result<(), Fail> {
     let mut cells: [Option<Record<LineEntry>>; 4] = [None; 4];
     match quota_over_quota(make(&mut cells, 4, 8), [inner; 32], [outer; 32]) {
         Ok(made) => {
@@ -19,7 +18,7 @@ fn run(rt: &impl Abort, inner: u16, outer: u16, script: &[(Call, Answer)]) -> Re
 }
 
 #[test]
-fn greatest_height_is_told(rt: HostRuntime) -> Result<(), Fail> {
+fn greatest_height_is_told() -> Result<(), Fail> {
     let script = [
         (Call::Put(0, 7, 1), Answer::Number(0)),
         (Call::Put(0, 8, 1), Answer::Refused(11, 1)),
@@ -33,14 +32,14 @@ fn greatest_height_is_told(rt: HostRuntime) -> Result<(), Fail> {
         (Call::Put(32, 9, 1), Answer::Refused(9, 0)),
         (Call::Cancel(0), Answer::Refused(14, 0)),
     ];
-    run(&rt, 1, 2, &script)
+    run(1, 2, &script)
 }
 
 #[test]
-fn limit_0_bars_every_put(rt: HostRuntime) -> Result<(), Fail> {
+fn limit_0_bars_every_put() -> Result<(), Fail> {
     let script = [
         (Call::Put(5, 7, 1), Answer::Refused(11, 2)),
         (Call::Issued, Answer::Number(0)),
     ];
-    run(&rt, 65535, 0, &script)
+    run(65535, 0, &script)
 }

@@ -1,4 +1,4 @@
--- The state of the sorted_list machine, and its parts replaced one at a time.
+-- The state of the sorted-list machine, and its parts replaced one at a time.
 use Rattle.std.specs.Prelude.{ℕ, ◌+◌, Bool, true, false, List, [], ◌∷◌, ◌++◌, Some, None, Option}
 use Rattle.elements.specs.declared.events.Event.{Event}
 use Rattle.elements.specs.declared.lines.LineEntry.{LineEntry}

@@ -1,4 +1,4 @@
-// The simulator's plain data, and the sorted_list machine that the simulator is held to. The machine is in specs/.
+// The simulator's plain data, and the sorted-list machine that the simulator is held to. The machine is in specs/.
 #![tactic(auto)]
 
 mod examples;

@@ -1,4 +1,4 @@
-// The laws of the sorted_list machine over whole runs.
+// The laws of the sorted-list machine over whole runs.
 #![tactic(auto)]
 
 mod laws;

@@ -1,4 +1,4 @@
-// What is claimed of a call over two real stores, told by the sorted_list machine (specs/), and how such claims compose.
+// What is claimed of a call over two real stores, told by the sorted-list machine (specs/), and how such claims compose.
 #![tactic(auto)]
 
 mod laws;

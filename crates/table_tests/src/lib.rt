@@ -29,31 +29,31 @@ mod tests {
     }
 
     #[test]
-    fn full_table_refuses(rt: HostRuntime) -> Result<(), Fail> {
+    fn full_table_refuses() -> Result<(), Fail> {
         let mut cells = [None; 2];
         passes(&mut make(&mut cells, 2, 3), &FULL)
     }
 
     #[test]
-    fn spent_table_refuses(rt: HostRuntime) -> Result<(), Fail> {
+    fn spent_table_refuses() -> Result<(), Fail> {
         let mut cells = [None; 2];
         passes(&mut make(&mut cells, 2, 2), &SPENT)
     }
 
     #[test]
-    fn entries_are_cancelled(rt: HostRuntime) -> Result<(), Fail> {
+    fn entries_are_cancelled() -> Result<(), Fail> {
         let mut cells = [None; 4];
         passes(&mut make(&mut cells, 4, 4), &cancelled(0))
     }
 
     #[test]
-    fn queues_are_melded(rt: HostRuntime) -> Result<(), Fail> {
+    fn queues_are_melded() -> Result<(), Fail> {
         let mut cells = [None; 4];
         passes(&mut make(&mut cells, 4, 4), &MELDED)
     }
 
     #[test]
-    fn entries_come_in_order(rt: HostRuntime) -> Result<(), Fail> {
+    fn entries_come_in_order() -> Result<(), Fail> {
         let mut cells = [None; 4];
         passes(&mut make(&mut cells, 4, 4), &ORDERED)
     }

@@ -1,8 +1,8 @@
 // The three heaps and the table answer one long list of calls alike.
 use crate::calls::{Answer, Call, blank, entry, event, make_call, number};
 use elements::Event;
-use std::process::Abort;
 use std::test::Fail;
+use store_checks::check;
 use stores::{Agenda, BareHeap};
 
 // How many calls are made, of how many cells and stamps: puts are refused for want of either.
@@ -110,10 +110,11 @@ fn table_answers(rt: &HostRuntime, answers: &mut [Answer]) -> Result<(), Fail> {
     Ok(())
 }
 
-fn same_answers(rt: &impl Abort, left: &[Answer], right: &[Answer]) {
+fn same_answers(left: &[Answer], right: &[Answer]) -> Result<(), Fail> {
     for (a, b) in left.iter().zip(right.iter()) {
-        assert_eq!(rt; *a, *b);
+        check(*a == *b)?;
     }
+    Ok(())
 }
 
 // How many of the answers are like this one.
@@ -139,10 +140,10 @@ fn all_stores_answer_alike(rt: HostRuntime) -> Result<(), Fail> {
     assert!(rt; times(&answers, Answer::Refused(13)) > 0);
     assert!(rt; times(&answers, Answer::Nothing) < CALLS / 8);
     leftist_answers(&rt, &mut others)?;
-    same_answers(&rt, &answers, &others);
+    same_answers(&answers, &others)?;
     pairing_answers(&rt, &mut others)?;
-    same_answers(&rt, &answers, &others);
+    same_answers(&answers, &others)?;
     binomial_answers(&rt, &mut others)?;
-    same_answers(&rt, &answers, &others);
+    same_answers(&answers, &others)?;
     Ok(())
 }

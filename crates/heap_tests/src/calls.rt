@@ -1,7 +1,7 @@
 // Calls of a bare heap, and their answers, as values that can be listed and compared.
 use elements::{Entry, Event, EventKind};
-use std::process::Abort;
 use std::test::Fail;
+use store_checks::check;
 use stores::{BareHeap, Refusal};
 
 #[derive(Clone, Copy)]
@@ -70,16 +70,12 @@ pub fn make_call<S: BareHeap<Item = Event>>(store: &mut S, call: Call) -> Answer
 }
 
 // Each call gives the answer beside it.
-pub fn run<S: BareHeap<Item = Event>>(
-    rt: &impl Abort,
-    store: &mut S,
-    calls: &[(Call, Answer)],
-) -> Result<(), Fail>
+pub fn run<S: BareHeap<Item = Event>>(store: &mut S, calls: &[(Call, Answer)]) -> Result<(), Fail>
     requires { S.BareHeap.sound store.old }
     ensures { S.BareHeap.sound store.new }
 {
     for (call, expected) in calls {
-        assert_eq!(rt; make_call(store, *call), *expected);
+        check(make_call(store, *call) == *expected)?;
     }
     Ok(())
 }

@@ -23,36 +23,36 @@ fn sizes_that_fit(rt: HostRuntime) {
 }
 
 #[test]
-fn equal_elements_come_by_stamp(rt: HostRuntime) -> Result<(), Fail> {
+fn equal_elements_come_by_stamp() -> Result<(), Fail> {
     let mut links = [Link::idle(None); 4];
     let mut entries = [blank(); 4];
     if fits(&links, &entries, 4, 9).is_err() {
         return Err(Fail::new("sizes"));
     }
     let mut store = make(&mut links, &mut entries, 4, 9);
-    trials::ties(&rt, &mut store)
+    trials::ties(&mut store)
 }
 
 #[test]
-fn refusals_in_their_order(rt: HostRuntime) -> Result<(), Fail> {
+fn refusals_in_their_order() -> Result<(), Fail> {
     let mut links = [Link::idle(None); 2];
     let mut entries = [blank(); 2];
     if fits(&links, &entries, 2, 2).is_err() {
         return Err(Fail::new("sizes"));
     }
     let mut store = make(&mut links, &mut entries, 2, 2);
-    trials::refusals(&rt, &mut store)
+    trials::refusals(&mut store)
 }
 
 #[test]
-fn melds_of_queues(rt: HostRuntime) -> Result<(), Fail> {
+fn melds_of_queues() -> Result<(), Fail> {
     let mut links = [Link::idle(None); 4];
     let mut entries = [blank(); 4];
     if fits(&links, &entries, 4, 4).is_err() {
         return Err(Fail::new("sizes"));
     }
     let mut store = make(&mut links, &mut entries, 4, 4);
-    trials::melds(&rt, &mut store)
+    trials::melds(&mut store)
 }
 
 #[test]
@@ -64,7 +64,7 @@ fn fills_and_empties_all_cells(rt: HostRuntime) -> Result<(), Fail> {
         return Err(Fail::new("sizes"));
     }
     let mut store = make(&mut links, &mut entries, 4096, 4096);
-    trials::all_cells(&rt, &mut store)
+    trials::all_cells(&mut store)
 }
 
 // The first root has all 4,095 other nodes for children when it is taken.
@@ -77,5 +77,5 @@ fn takes_a_root_with_all_others_for_children(rt: HostRuntime) -> Result<(), Fail
         return Err(Fail::new("sizes"));
     }
     let mut store = make(&mut links, &mut entries, 4096, 4096);
-    trials::ascending(&rt, &mut store)
+    trials::ascending(&mut store)
 }

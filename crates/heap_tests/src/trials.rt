@@ -1,12 +1,12 @@
 // What any bare heap is tried with: ties, refusals, empty queues, melds, and 4,096 cells filled and emptied.
 use crate::calls::{Answer, Call, entry, event, make_call, number, run};
 use elements::Event;
-use std::process::Abort;
 use std::test::Fail;
+use store_checks::check;
 use stores::BareHeap;
 
 // Over a fresh store of 4 cells and 9 stamps: equal elements come by stamp.
-pub fn ties<S: BareHeap<Item = Event>>(rt: &impl Abort, store: &mut S) -> Result<(), Fail>
+pub fn ties<S: BareHeap<Item = Event>>(store: &mut S) -> Result<(), Fail>
     requires { S.BareHeap.sound store.old }
 {
     let calls = [
@@ -24,11 +24,11 @@ pub fn ties<S: BareHeap<Item = Event>>(rt: &impl Abort, store: &mut S) -> Result
         (Call::Take { queue: 3 }, Answer::Entry { time: 7, stamp: 2 }),
         (Call::Take { queue: 3 }, Answer::Nothing),
     ];
-    run(rt, store, &calls)
+    run(store, &calls)
 }
 
 // Over a fresh store of 2 cells and 2 stamps: each refusal, the lowest number first.
-pub fn refusals<S: BareHeap<Item = Event>>(rt: &impl Abort, store: &mut S) -> Result<(), Fail>
+pub fn refusals<S: BareHeap<Item = Event>>(store: &mut S) -> Result<(), Fail>
     requires { S.BareHeap.sound store.old }
 {
     let calls = [
@@ -50,11 +50,11 @@ pub fn refusals<S: BareHeap<Item = Event>>(rt: &impl Abort, store: &mut S) -> Re
             Answer::Entry { time: 8, stamp: 1 },
         ),
     ];
-    run(rt, store, &calls)
+    run(store, &calls)
 }
 
 // Over a fresh store of 4 cells and 4 stamps: melds of empty and full queues, both ways.
-pub fn melds<S: BareHeap<Item = Event>>(rt: &impl Abort, store: &mut S) -> Result<(), Fail>
+pub fn melds<S: BareHeap<Item = Event>>(store: &mut S) -> Result<(), Fail>
     requires { S.BareHeap.sound store.old }
 {
     let calls = [
@@ -76,15 +76,11 @@ pub fn melds<S: BareHeap<Item = Event>>(rt: &impl Abort, store: &mut S) -> Resul
         (Call::Take { queue: 1 }, Answer::Entry { time: 6, stamp: 2 }),
         (Call::Take { queue: 1 }, Answer::Nothing),
     ];
-    run(rt, store, &calls)
+    run(store, &calls)
 }
 
 // Queue 0 gives events at the times from `start` to 4,095, in this order, and is then empty.
-fn empties<S: BareHeap<Item = Event>>(
-    rt: &impl Abort,
-    store: &mut S,
-    start: u32,
-) -> Result<(), Fail>
+fn empties<S: BareHeap<Item = Event>>(store: &mut S, start: u32) -> Result<(), Fail>
     requires { S.BareHeap.sound store.old }
     ensures { S.BareHeap.sound store.new }
 {
@@ -93,53 +89,50 @@ fn empties<S: BareHeap<Item = Event>>(
             Answer::Entry { time, .. } => time,
             _ => return Err(Fail::new("no entry")),
         };
-        assert_eq!(rt; taken, time);
+        check(taken == time)?;
     }
-    assert_eq!(rt; entry(store.take(0)), Answer::Nothing);
+    check(entry(store.take(0)) == Answer::Nothing)?;
     Ok(())
 }
 
 // Events at the times 0 to 4,095, each once and in no order, go into eight queues.
-fn fills<S: BareHeap<Item = Event>>(rt: &impl Abort, store: &mut S) -> Result<(), Fail>
+fn fills<S: BareHeap<Item = Event>>(store: &mut S) -> Result<(), Fail>
     requires { S.BareHeap.sound store.old }
     ensures { S.BareHeap.sound store.new }
 {
     for i in 0..4096u16 {
         let time = (i as u32 * 1021) % 4096;
         let queue = (i % 8) as u8;
-        assert_eq!(rt; number(store.put(queue, event(time))), Answer::Number(i));
+        check(number(store.put(queue, event(time))) == Answer::Number(i))?;
     }
     for queue in 1..8u8 {
-        assert_eq!(rt; number(store.meld(0, queue)), Answer::Number(512));
+        check(number(store.meld(0, queue)) == Answer::Number(512))?;
     }
     Ok(())
 }
 
 // Over a fresh store of 4,096 cells and stamps: all are used, and the entries come out in their order.
-pub fn all_cells<S: BareHeap<Item = Event>>(rt: &impl Abort, store: &mut S) -> Result<(), Fail>
+pub fn all_cells<S: BareHeap<Item = Event>>(store: &mut S) -> Result<(), Fail>
     requires { S.BareHeap.sound store.old }
 {
-    fills(rt, store)?;
+    fills(store)?;
     let more = Call::Put { queue: 0, time: 0 };
-    assert_eq!(rt; make_call(store, more), Answer::Refused(12));
-    empties(rt, store, 0)?;
-    assert_eq!(rt; make_call(store, more), Answer::Refused(13));
-    assert_eq!(rt; store.issued(), 4096);
-    assert_eq!(rt; store.sizes(), (4096, 4096));
-    assert_eq!(rt; store.height(), 0);
+    check(make_call(store, more) == Answer::Refused(12))?;
+    empties(store, 0)?;
+    check(make_call(store, more) == Answer::Refused(13))?;
+    check(store.issued() == 4096)?;
+    check(store.sizes() == (4096, 4096))?;
+    check(store.height() == 0)?;
     Ok(())
 }
 
 // Over a fresh store of 4,096 cells and stamps: each later event is put behind all others, then the first is taken.
-pub fn ascending<S: BareHeap<Item = Event>>(rt: &impl Abort, store: &mut S) -> Result<(), Fail>
+pub fn ascending<S: BareHeap<Item = Event>>(store: &mut S) -> Result<(), Fail>
     requires { S.BareHeap.sound store.old }
 {
     for i in 0..4096u16 {
-        assert_eq!(rt; number(store.put(0, event(i as u32))), Answer::Number(i));
+        check(number(store.put(0, event(i as u32))) == Answer::Number(i))?;
     }
-    assert_eq!(rt;
-        make_call(store, Call::Take { queue: 0 }),
-        Answer::Entry { time: 0, stamp: 0 }
-    );
-    empties(rt, store, 1)
+    check(make_call(store, Call::Take { queue: 0 }) == Answer::Entry { time: 0, stamp: 0 })?;
+    empties(store, 1)
 }

@@ -1,8 +1,8 @@
 // Events in a store of leftist heaps: ties, refusals, empty queues, melds, and 4,096 cells filled and emptied.
 use elements::{Entry, Event, EventKind};
 use leftist::{Link, fits, make};
-use std::process::Abort;
 use std::test::Fail;
+use store_checks::check;
 use stores::{BareHeap, Refusal};
 
 #[derive(Clone, Copy)]
@@ -64,22 +64,18 @@ fn make_call<S: BareHeap<Item = Event>>(store: &mut S, call: Call) -> Answer
 }
 
 // Each call gives the answer beside it.
-fn run<S: BareHeap<Item = Event>>(
-    rt: &impl Abort,
-    store: &mut S,
-    calls: &[(Call, Answer)],
-) -> Result<(), Fail>
+fn run<S: BareHeap<Item = Event>>(store: &mut S, calls: &[(Call, Answer)]) -> Result<(), Fail>
     requires { S.BareHeap.sound store.old }
 {
     for (call, expected) in calls {
-        assert_eq!(rt; make_call(store, *call), *expected);
+        check(make_call(store, *call) == *expected)?;
     }
     Ok(())
 }
 
 // The same over a fresh store of so many cells and stamps.
 fn run_fresh(
-    rt: &(impl Abort + AllocGlobal),
+    rt: &impl AllocGlobal,
     cells: u16,
     stamps: u16,
     calls: &[(Call, Answer)],
@@ -94,7 +90,7 @@ fn run_fresh(
         return Err(Fail::new("sizes"));
     }
     let mut store = make(&mut links, &mut entries, cells, stamps);
-    run(rt, &mut store, calls)
+    run(&mut store, calls)
 }
 
 #[test]
@@ -187,34 +183,34 @@ fn sizes_that_fit(rt: HostRuntime) {
 }
 
 // Events at the times 0 to 4,095, each once and in no order, go into eight queues.
-fn fill<S: BareHeap<Item = Event>>(rt: &impl Abort, store: &mut S) -> Result<(), Fail>
+fn fill<S: BareHeap<Item = Event>>(store: &mut S) -> Result<(), Fail>
     requires { S.BareHeap.sound store.old }
     ensures { S.BareHeap.sound store.new }
 {
     for i in 0..4096u16 {
         let time = (i as u32 * 1021) % 4096;
         let queue = (i % 8) as u8;
-        assert_eq!(rt; number(store.put(queue, event(time))), Answer::Number(i));
+        check(number(store.put(queue, event(time))) == Answer::Number(i))?;
     }
     Ok(())
 }
 
 // They come out of the first queue by time.
-fn empty<S: BareHeap<Item = Event>>(rt: &impl Abort, store: &mut S) -> Result<(), Fail>
+fn empty<S: BareHeap<Item = Event>>(store: &mut S) -> Result<(), Fail>
     requires { S.BareHeap.sound store.old }
     ensures { S.BareHeap.sound store.new }
 {
     for queue in 1..8u8 {
-        assert_eq!(rt; number(store.meld(0, queue)), Answer::Number(512));
+        check(number(store.meld(0, queue)) == Answer::Number(512))?;
     }
     for time in 0..4096u32 {
         let found = match entry(store.take(0)) {
             Answer::Entry { time, .. } => time,
             _ => return Err(Fail::new("no entry")),
         };
-        assert_eq!(rt; found, time);
+        check(found == time)?;
     }
-    assert_eq!(rt; entry(store.take(0)), Answer::Nothing);
+    check(entry(store.take(0)) == Answer::Nothing)?;
     Ok(())
 }
 
@@ -230,12 +226,12 @@ fn fills_and_empties_all_cells(rt: HostRuntime) -> Result<(), Fail> {
         return Err(Fail::new("sizes"));
     }
     let mut store = make(&mut links, &mut entries, 4096, 4096);
-    fill(&rt, &mut store)?;
+    fill(&mut store)?;
     assert_eq!(rt;
         make_call(&mut store, Call::Put { queue: 0, time: 0 }),
         Answer::Refused(12)
     );
-    empty(&rt, &mut store)?;
+    empty(&mut store)?;
     assert_eq!(rt;
         make_call(&mut store, Call::Put { queue: 0, time: 0 }),
         Answer::Refused(13)

@@ -2,7 +2,9 @@
 #![tactic(auto)]
 
 mod calls;
+mod checks;
 mod scripts;
 
 pub use calls::{Answer, Call, make_call};
+pub use checks::check;
 pub use scripts::{FULL, MELDED, ORDERED, SPENT, cancelled, passes};

@@ -1,25 +1,25 @@
 // Lines as their bytes, at the edges of their numbers and of the memory that is lent.
 use machine::{Fault, FormRefusal, Record, RecordKind, ScriptRefusal, StoreName, Totals};
-use std::process::Abort;
 use std::test::Fail;
+use store_checks::check;
 use stores::Refusal;
 use trace::{LINE_BYTES, Line, write_line};
 
 // Writes the line over bytes of 7, of which four are lent beyond the least, and looks at all of them.
-fn check_line(rt: &impl Abort, line: Line, expected: &[u8]) -> Result<(), Fail> {
+fn check_line(line: Line, expected: &[u8]) -> Result<(), Fail> {
     let mut buffer = [7; 100];
     let Ok(length) = write_line(&line, &mut buffer) else {
         return Err(Fail::new("enough is lent"));
     };
-    assert_eq!(rt; &buffer[..length], expected);
+    check(&buffer[..length] == expected)?;
     for byte in &buffer[length..] {
-        assert_eq!(rt; *byte, 7, "the further bytes stay");
+        check(*byte == 7)?;
     }
     Ok(())
 }
 
-fn check_record(rt: &impl Abort, at: u32, kind: RecordKind, expected: &[u8]) -> Result<(), Fail> {
-    check_line(rt, Line::Record(Record { at, kind }), expected)
+fn check_record(at: u32, kind: RecordKind, expected: &[u8]) -> Result<(), Fail> {
+    check_line(Line::Record(Record { at, kind }), expected)
 }
 
 // What an end line tells, with none pending or stranded.
@@ -135,9 +135,8 @@ fn records_of_the_worked_example(rt: HostRuntime) -> Result<(), Fail> {
 }
 
 #[test]
-fn end_of_the_worked_example(rt: HostRuntime) -> Result<(), Fail> {
+fn end_of_the_worked_example() -> Result<(), Fail> {
     check_line(
-        &rt,
         Line::End {
             at: 9,
             totals: ended(0, 1, 1, 1, 1),
@@ -147,29 +146,25 @@ fn end_of_the_worked_example(rt: HostRuntime) -> Result<(), Fail> {
 }
 
 #[test]
-fn largest_orders(rt: HostRuntime) -> Result<(), Fail> {
+fn largest_orders() -> Result<(), Fail> {
     let order = u16::MAX;
     let station = u8::MAX;
     check_record(
-        &rt,
         u32::MAX,
         RecordKind::Start { order, station },
         b"(at 4294967295 (start 65535 255))\n",
     )?;
     check_record(
-        &rt,
         u32::MAX,
         RecordKind::Wait { order, station },
         b"(at 4294967295 (wait 65535 255))\n",
     )?;
     check_record(
-        &rt,
         u32::MAX,
         RecordKind::Away { order, station },
         b"(at 4294967295 (away 65535 255))\n",
     )?;
     check_record(
-        &rt,
         u32::MAX,
         RecordKind::Finish { order, station },
         b"(at 4294967295 (finish 65535 255))\n",
@@ -177,22 +172,19 @@ fn largest_orders(rt: HostRuntime) -> Result<(), Fail> {
 }
 
 #[test]
-fn largest_single_orders(rt: HostRuntime) -> Result<(), Fail> {
+fn largest_single_orders() -> Result<(), Fail> {
     let order = u16::MAX;
     check_record(
-        &rt,
         u32::MAX,
         RecordKind::Withdrawn { order },
         b"(at 4294967295 (withdrawn 65535))\n",
     )?;
     check_record(
-        &rt,
         u32::MAX,
         RecordKind::Missed { order },
         b"(at 4294967295 (missed 65535))\n",
     )?;
     check_record(
-        &rt,
         u32::MAX,
         RecordKind::Done { order },
         b"(at 4294967295 (done 65535))\n",
@@ -200,9 +192,8 @@ fn largest_single_orders(rt: HostRuntime) -> Result<(), Fail> {
 }
 
 #[test]
-fn largest_stations(rt: HostRuntime) -> Result<(), Fail> {
+fn largest_stations() -> Result<(), Fail> {
     check_record(
-        &rt,
         u32::MAX,
         RecordKind::Close {
             station: 254,
@@ -212,7 +203,6 @@ fn largest_stations(rt: HostRuntime) -> Result<(), Fail> {
         b"(at 4294967295 (close 254 255 65535))\n",
     )?;
     check_record(
-        &rt,
         1_000_000_000,
         RecordKind::Kept {
             station: 31,
@@ -223,9 +213,8 @@ fn largest_stations(rt: HostRuntime) -> Result<(), Fail> {
 }
 
 #[test]
-fn largest_totals(rt: HostRuntime) -> Result<(), Fail> {
+fn largest_totals() -> Result<(), Fail> {
     check_line(
-        &rt,
         Line::End {
             at: u32::MAX,
             totals: ended(u16::MAX, u16::MAX, u16::MAX, 65534, 10000),
@@ -235,9 +224,8 @@ fn largest_totals(rt: HostRuntime) -> Result<(), Fail> {
 }
 
 #[test]
-fn faults(rt: HostRuntime) -> Result<(), Fail> {
+fn faults() -> Result<(), Fail> {
     check_line(
-        &rt,
         Line::Fault(Fault {
             refusal: Refusal::NoStamp,
             store: StoreName::Events,
@@ -246,7 +234,6 @@ fn faults(rt: HostRuntime) -> Result<(), Fail> {
         b"(fault 7 (cause 13) (store events) (layer 0))\n",
     )?;
     check_line(
-        &rt,
         Line::Fault(Fault {
             refusal: Refusal::AtLimit { height: 255 },
             store: StoreName::Orders,
@@ -257,9 +244,8 @@ fn faults(rt: HostRuntime) -> Result<(), Fail> {
 }
 
 #[test]
-fn refused_scripts(rt: HostRuntime) -> Result<(), Fail> {
+fn refused_scripts() -> Result<(), Fail> {
     check_line(
-        &rt,
         Line::Refused {
             refusal: ScriptRefusal::TooLong,
             line: 0,
@@ -267,7 +253,6 @@ fn refused_scripts(rt: HostRuntime) -> Result<(), Fail> {
         b"(refused 3 (line 0))\n",
     )?;
     check_line(
-        &rt,
         Line::Refused {
             refusal: ScriptRefusal::Form {
                 refusal: FormRefusal::OutOfPlace,
@@ -277,7 +262,6 @@ fn refused_scripts(rt: HostRuntime) -> Result<(), Fail> {
         b"(refused 6 (line 65537))\n",
     )?;
     check_line(
-        &rt,
         Line::Refused {
             refusal: ScriptRefusal::Form {
                 refusal: FormRefusal::Store {

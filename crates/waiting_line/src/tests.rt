@@ -1,12 +1,14 @@
 // Lines that are refused, and stores that run out of cells or stamps.
 use super::*;
-use std::process::Abort;
 use std::test::Fail;
 
-fn check_printed(rt: &(impl Abort + AllocGlobal), text: &[u8], expected: &str) -> Result<(), Fail> {
+fn check_printed(rt: &impl AllocGlobal, text: &[u8], expected: &str) -> Result<(), Fail> {
     let answer = printed(text, rt.alloc())?;
-    assert_eq!(rt; answer.as_str(), expected);
-    Ok(())
+    if answer.as_str() == expected {
+        Ok(())
+    } else {
+        Err(Fail::new("another answer is printed"))
+    }
 }
 
 #[test]

@@ -1,5 +1,5 @@
 // An order in hand, and the five ways to spend it.
-ghost use Rattle.std.specs.Prelude.{◌≡◌, ◌<◌, length};
+ghost use Rattle.std.specs.Prelude.{◌≡◌, ◌<◌, true, length};
 ghost use Rattle.machine.specs.declared.records.RecordKind.TheVariants.{Start, Wait, Away, Done};
 ghost use Rattle.machine.specs.Network.{station};
 ghost use Rattle.simulations.specs.Conditions.{IsOrder, IsStation};
@@ -10,26 +10,27 @@ use crate::Workshop;
 use machine::{Fault, OrderState, Record, RecordKind, StoreName};
 use stores::Refusal;
 
-// An order that arrived, finished or was taken from a line. Its drop asks for what nobody can show, so it has to be spent:
-// started, put in a line, away, done or stranded.
+// An order that arrived, finished or was taken from a line. It may be let go only once it is spent: started, put in a line,
+// away, done or stranded.
 pub(crate) struct InHand {
     pub(crate) order: u16,
+    pub(crate) spent: bool,
 }
 
 impl Drop for InHand {
     fn drop(self)
-        requires { ⊥ }
+        requires { self.spent ≡ true }
     {
-        let InHand { order: _ } = self;
+        let InHand { order: _, spent: _ } = self;
     }
 }
 
 impl InHand {
-    fn spend(self) -> u16
+    fn spend(mut self) -> u16
         ensures { result ≡ self.order }
     {
-        let InHand { order } = self;
-        order
+        self.spent = true;
+        self.order
     }
 }
 

@@ -166,6 +166,7 @@ impl<'a> Workshop<'a> {
                 Some(entry) => {
                     let hand = InHand {
                         order: entry.element.order,
+                        spent: false,
                     };
                     self.start(hand, k, events, orders, places);
                 }

@@ -77,11 +77,17 @@ impl<'a> Workshop<'a> {
     {
         match kind {
             EventKind::Arrive { order, station } => {
-                let hand = InHand { order };
+                let hand = InHand {
+                    order,
+                    spent: false,
+                };
                 self.enter(hand, station, events, orders, places);
             }
             EventKind::Finish { order, station } => {
-                let hand = InHand { order };
+                let hand = InHand {
+                    order,
+                    spent: false,
+                };
                 self.finish(hand, station, events, orders, places);
             }
             EventKind::Withdraw { order } => self.withdraw(order, kind, events, orders, places),

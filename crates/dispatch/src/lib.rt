@@ -33,9 +33,9 @@ pub fn admit<A: Agenda<Item = LineEntry>>(
     line: &mut A,
     orders: &[LineEntry],
 ) -> Result<(), Rejected>
-    requires { A.Agenda.sound line.old }
-    ensures sound { A.Agenda.sound line.new }
-    ensures effect { Admits line_le (A.Agenda.meaning line.old) orders.now result (A.Agenda.meaning line.new) }
+    requires { A.Store.sound line.old }
+    ensures sound { A.Store.sound line.new }
+    ensures effect { Admits line_le (A.Store.meaning line.old) orders.now result (A.Store.meaning line.new) }
 {
     for (index, order) in orders.iter().enumerate() {
         match line.put(0, *order) {
@@ -48,8 +48,8 @@ pub fn admit<A: Agenda<Item = LineEntry>>(
 
 // How many orders wait in queue 0.
 fn waiting<A: Agenda<Item = LineEntry>>(line: &A) -> u16
-    requires { A.Agenda.sound line.now }
-    ensures { result ≡ count_of (A.Agenda.meaning line.now).state 0 }
+    requires { A.Store.sound line.now }
+    ensures { result ≡ count_of (A.Store.meaning line.now).state 0 }
 {
     match line.count(0) {
         Ok(n) => n,
@@ -59,9 +59,9 @@ fn waiting<A: Agenda<Item = LineEntry>>(line: &A) -> u16
 
 // The front entry of queue 0 leaves it.
 fn take_front<A: Agenda<Item = LineEntry>>(line: &mut A) -> Option<Entry<LineEntry>>
-    requires { A.Agenda.sound line.old }
-    ensures sound { A.Agenda.sound line.new }
-    ensures effect { Takes line_le (A.Agenda.meaning line.old) 0 (Ok result) (A.Agenda.meaning line.new) }
+    requires { A.Store.sound line.old }
+    ensures sound { A.Store.sound line.new }
+    ensures effect { Takes line_le (A.Store.meaning line.old) 0 (Ok result) (A.Store.meaning line.new) }
 {
     match line.take(0) {
         Ok(front) => front,
@@ -74,9 +74,9 @@ pub fn serve<A: Agenda<Item = LineEntry>>(
     line: &mut A,
     heap: Global,
 ) -> Result<Vec<LineEntry>, AllocError>
-    requires { A.Agenda.sound line.old }
-    ensures sound { A.Agenda.sound line.new }
-    ensures effect { MatchResult result (λ v. Served line_le (A.Agenda.meaning line.old) v.items (A.Agenda.meaning line.new)) (λ _. line.new ≡ line.old) }
+    requires { A.Store.sound line.old }
+    ensures sound { A.Store.sound line.new }
+    ensures effect { MatchResult result (λ v. Served line_le (A.Store.meaning line.old) v.items (A.Store.meaning line.new)) (λ _. line.new ≡ line.old) }
 {
     let mut served = Vec::with_capacity(heap, waiting(line) as usize)?;
     'serving: while let Some(entry) = take_front(line) {
@@ -92,10 +92,10 @@ pub fn order_of_service<A: Agenda<Item = LineEntry>>(
     orders: &[LineEntry],
     heap: Global,
 ) -> Result<Vec<LineEntry>, Failure>
-    requires { A.Agenda.sound line.old }
-    ensures sound { A.Agenda.sound line.new }
-    ensures effect { MatchResult result (λ v. Dispatched line_le (A.Agenda.meaning line.old) orders.now v.items (A.Agenda.meaning line.new)) (λ e. Failed line_le (A.Agenda.meaning line.old) orders.now e (A.Agenda.meaning line.new)) }
-    ensures unused { Unused line_le (A.Agenda.meaning line.old) → MatchResult result (λ v. Enough (A.Agenda.meaning line.old).fixed.cells (A.Agenda.meaning line.old).fixed.stamps (length orders.now) × (v.items ≡ service_order orders.now)) (Hindered (A.Agenda.meaning line.old).fixed.cells (A.Agenda.meaning line.old).fixed.stamps (length orders.now)) }
+    requires { A.Store.sound line.old }
+    ensures sound { A.Store.sound line.new }
+    ensures effect { MatchResult result (λ v. Dispatched line_le (A.Store.meaning line.old) orders.now v.items (A.Store.meaning line.new)) (λ e. Failed line_le (A.Store.meaning line.old) orders.now e (A.Store.meaning line.new)) }
+    ensures unused { Unused line_le (A.Store.meaning line.old) → MatchResult result (λ v. Enough (A.Store.meaning line.old).fixed.cells (A.Store.meaning line.old).fixed.stamps (length orders.now) × (v.items ≡ service_order orders.now)) (Hindered (A.Store.meaning line.old).fixed.cells (A.Store.meaning line.old).fixed.stamps (length orders.now)) }
 {
     match admit(line, orders) {
         Ok(_) => match serve(line, heap) {

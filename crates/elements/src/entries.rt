@@ -6,7 +6,7 @@ use crate::lines::LineEntry;
 use crate::order::Ordered;
 
 // An element and the stamp that it was given when it was put: 0 for the first of a store, 1 for the next, and on.
-#[derive(Clone, Copy)]
+#[derive(Clone, Copy, PartialEq, Eq, Debug)]
 pub struct Entry<T> {
     pub element: T,
     pub stamp: u16,
@@ -16,11 +16,7 @@ pub struct Entry<T> {
 pub fn precedes<T: Ordered>(a: &Entry<T>, b: &Entry<T>) -> bool
     ensures { result ≡ precedes_by T.Ordered.le a.now b.now }
 {
-    if b.element.no_later(&a.element) {
-        a.element.no_later(&b.element) && a.stamp < b.stamp
-    } else {
-        true
-    }
+    !b.element.no_later(&a.element) || a.element.no_later(&b.element) && a.stamp < b.stamp
 }
 
 // A theorem, with nothing to compute: whatever the elements, each is no later than itself, and entries are strictly

@@ -4,7 +4,7 @@ ghost use Rattle.std.proofs.Common.{rules};
 
 use crate::order::Ordered;
 
-#[derive(Clone, Copy)]
+#[derive(Clone, Copy, PartialEq, Eq, Debug)]
 pub enum EventKind {
     Arrive { order: u16, station: u8 },
     Finish { order: u16, station: u8 },
@@ -12,7 +12,7 @@ pub enum EventKind {
     Close { station: u8, into: u8 },
 }
 
-#[derive(Clone, Copy)]
+#[derive(Clone, Copy, PartialEq, Eq, Debug)]
 pub struct Event {
     // in ticks
     pub time: u32,

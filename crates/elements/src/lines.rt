@@ -4,7 +4,7 @@ ghost use Rattle.std.proofs.Common.{rules};
 
 use crate::order::Ordered;
 
-#[derive(Clone, Copy)]
+#[derive(Clone, Copy, PartialEq, Eq, Debug)]
 pub struct LineEntry {
     pub order: u16,
     // 0 is the most urgent
@@ -18,10 +18,6 @@ impl Ordered for LineEntry {
     ghost laws = { Prim.search rules };
 
     fn no_later(&self, other: &LineEntry) -> bool {
-        if self.urgency == other.urgency {
-            self.due <= other.due
-        } else {
-            self.urgency < other.urgency
-        }
+        (self.urgency, self.due) <= (other.urgency, other.due)
     }
 }

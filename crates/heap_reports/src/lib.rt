@@ -20,11 +20,11 @@ pub fn report_over<B: BareHeap<Item = LineEntry> + Drop>(
     text: &[u8],
     heap: Global,
 ) -> Result<String, AllocError>
-    requires sound { B.BareHeap.sound below }
-    requires formed { WellFormed line_le (B.BareHeap.meaning below) }
-    requires bare { Bare (B.BareHeap.meaning below) }
-    requires fit { Fit (B.BareHeap.meaning below) }
-    ensures { IfOk result (λ s. Printed (B.BareHeap.meaning below).fixed.cells (B.BareHeap.meaning below).fixed.stamps text.now (string_bytes s)) }
+    requires sound { B.Store.sound below }
+    requires formed { WellFormed line_le (B.Store.meaning below) }
+    requires bare { Bare (B.Store.meaning below) }
+    requires fit { Fit (B.Store.meaning below) }
+    ensures { IfOk result (λ s. Printed (B.Store.meaning below).fixed.cells (B.Store.meaning below).fixed.stamps text.now (string_bytes s)) }
 {
     let mut line = Lazy::make(below);
     report(&mut line, text, heap)

@@ -34,7 +34,7 @@ fn nth_call(i: usize) -> Call {
 
 // The answers of a bare heap.
 fn heap_answers<S: BareHeap<Item = Event>>(store: &mut S, answers: &mut [Answer])
-    requires { S.BareHeap.sound store.old }
+    requires { S.Store.sound store.old }
 {
     for (i, answer) in answers.iter_mut().enumerate() {
         *answer = make_call(store, nth_call(i));
@@ -42,8 +42,8 @@ fn heap_answers<S: BareHeap<Item = Event>>(store: &mut S, answers: &mut [Answer]
 }
 
 fn make_agenda_call<A: Agenda<Item = Event>>(store: &mut A, call: Call) -> Answer
-    requires { A.Agenda.sound store.old }
-    ensures { A.Agenda.sound store.new }
+    requires { A.Store.sound store.old }
+    ensures { A.Store.sound store.new }
 {
     match call {
         Call::Put { queue, time } => number(store.put(queue, event(time))),
@@ -56,7 +56,7 @@ fn make_agenda_call<A: Agenda<Item = Event>>(store: &mut A, call: Call) -> Answe
 
 // The answers of an agenda.
 fn agenda_answers<A: Agenda<Item = Event>>(store: &mut A, answers: &mut [Answer])
-    requires { A.Agenda.sound store.old }
+    requires { A.Store.sound store.old }
 {
     for (i, answer) in answers.iter_mut().enumerate() {
         *answer = make_agenda_call(store, nth_call(i));

@@ -57,8 +57,8 @@ pub fn entry(answer: Result<Option<Entry<Event>>, Refusal>) -> Answer {
 }
 
 pub fn make_call<S: BareHeap<Item = Event>>(store: &mut S, call: Call) -> Answer
-    requires { S.BareHeap.sound store.old }
-    ensures { S.BareHeap.sound store.new }
+    requires { S.Store.sound store.old }
+    ensures { S.Store.sound store.new }
 {
     match call {
         Call::Put { queue, time } => number(store.put(queue, event(time))),
@@ -71,8 +71,8 @@ pub fn make_call<S: BareHeap<Item = Event>>(store: &mut S, call: Call) -> Answer
 
 // Each call gives the answer beside it.
 pub fn run<S: BareHeap<Item = Event>>(store: &mut S, calls: &[(Call, Answer)]) -> Result<(), Fail>
-    requires { S.BareHeap.sound store.old }
-    ensures { S.BareHeap.sound store.new }
+    requires { S.Store.sound store.old }
+    ensures { S.Store.sound store.new }
 {
     for (call, expected) in calls {
         check(make_call(store, *call) == *expected)?;

@@ -7,7 +7,7 @@ use stores::BareHeap;
 
 // Over a fresh store of 4 cells and 9 stamps: equal elements come by stamp.
 pub fn ties<S: BareHeap<Item = Event>>(store: &mut S) -> Result<(), Fail>
-    requires { S.BareHeap.sound store.old }
+    requires { S.Store.sound store.old }
 {
     let calls = [
         (Call::Put { queue: 3, time: 7 }, Answer::Number(0)),
@@ -29,7 +29,7 @@ pub fn ties<S: BareHeap<Item = Event>>(store: &mut S) -> Result<(), Fail>
 
 // Over a fresh store of 2 cells and 2 stamps: each refusal, the lowest number first.
 pub fn refusals<S: BareHeap<Item = Event>>(store: &mut S) -> Result<(), Fail>
-    requires { S.BareHeap.sound store.old }
+    requires { S.Store.sound store.old }
 {
     let calls = [
         (Call::Put { queue: 0, time: 9 }, Answer::Number(0)),
@@ -55,7 +55,7 @@ pub fn refusals<S: BareHeap<Item = Event>>(store: &mut S) -> Result<(), Fail>
 
 // Over a fresh store of 4 cells and 4 stamps: melds of empty and full queues, both ways.
 pub fn melds<S: BareHeap<Item = Event>>(store: &mut S) -> Result<(), Fail>
-    requires { S.BareHeap.sound store.old }
+    requires { S.Store.sound store.old }
 {
     let calls = [
         (Call::Meld { into: 1, from: 2 }, Answer::Number(0)),
@@ -81,8 +81,8 @@ pub fn melds<S: BareHeap<Item = Event>>(store: &mut S) -> Result<(), Fail>
 
 // Queue 0 gives events at the times from `start` to 4,095, in this order, and is then empty.
 fn empties<S: BareHeap<Item = Event>>(store: &mut S, start: u32) -> Result<(), Fail>
-    requires { S.BareHeap.sound store.old }
-    ensures { S.BareHeap.sound store.new }
+    requires { S.Store.sound store.old }
+    ensures { S.Store.sound store.new }
 {
     for time in start..4096 {
         let taken = match entry(store.take(0)) {
@@ -97,8 +97,8 @@ fn empties<S: BareHeap<Item = Event>>(store: &mut S, start: u32) -> Result<(), F
 
 // Events at the times 0 to 4,095, each once and in no order, go into eight queues.
 fn fills<S: BareHeap<Item = Event>>(store: &mut S) -> Result<(), Fail>
-    requires { S.BareHeap.sound store.old }
-    ensures { S.BareHeap.sound store.new }
+    requires { S.Store.sound store.old }
+    ensures { S.Store.sound store.new }
 {
     for i in 0..4096u16 {
         let time = (i as u32 * 1021) % 4096;
@@ -113,7 +113,7 @@ fn fills<S: BareHeap<Item = Event>>(store: &mut S) -> Result<(), Fail>
 
 // Over a fresh store of 4,096 cells and stamps: all are used, and the entries come out in their order.
 pub fn all_cells<S: BareHeap<Item = Event>>(store: &mut S) -> Result<(), Fail>
-    requires { S.BareHeap.sound store.old }
+    requires { S.Store.sound store.old }
 {
     fills(store)?;
     let more = Call::Put { queue: 0, time: 0 };
@@ -128,7 +128,7 @@ pub fn all_cells<S: BareHeap<Item = Event>>(store: &mut S) -> Result<(), Fail>
 
 // Over a fresh store of 4,096 cells and stamps: each later event is put behind all others, then the first is taken.
 pub fn ascending<S: BareHeap<Item = Event>>(store: &mut S) -> Result<(), Fail>
-    requires { S.BareHeap.sound store.old }
+    requires { S.Store.sound store.old }
 {
     for i in 0..4096u16 {
         check(number(store.put(0, event(i as u32))) == Answer::Number(i))?;

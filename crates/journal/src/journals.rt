@@ -21,8 +21,8 @@ pub struct Journal<B> {
 impl<B: Agenda> Journal<B> {
     // Whether the layer can stand over this store with so many places.
     pub fn fits(below: &B, used: u16) -> Result<(), Unfit>
-        requires { B.Agenda.sound below.now }
-        ensures { Tests result OutOfRange (Fit (B.Agenda.meaning below.now) used) }
+        requires { B.Store.sound below.now }
+        ensures { Tests result OutOfRange (Fit (B.Store.meaning below.now) used) }
     {
         if below.height() < 255 && used >= 1 && used <= 1024 {
             Ok(())
@@ -33,12 +33,12 @@ impl<B: Agenda> Journal<B> {
 
     // The layer over this store, with so many places and no change in them.
     pub fn make(below: B, used: u16) -> Journal<B>
-        requires sound { B.Agenda.sound below }
-        requires formed { WellFormed B.Item.Ordered.le (B.Agenda.meaning below) }
-        requires fit { Fit (B.Agenda.meaning below) used }
-        ensures sound { journal_sound B.Item.Ordered.le B.Agenda.sound B.Agenda.meaning result }
-        ensures formed { WellFormed B.Item.Ordered.le (journal_meaning B.Agenda.meaning result) }
-        ensures meaning { journal_meaning B.Agenda.meaning result ≡ raised (B.Agenda.meaning below) }
+        requires sound { B.Store.sound below }
+        requires formed { WellFormed B.Item.Ordered.le (B.Store.meaning below) }
+        requires fit { Fit (B.Store.meaning below) used }
+        ensures sound { journal_sound B.Item.Ordered.le B.Store.sound B.Store.meaning result }
+        ensures formed { WellFormed B.Item.Ordered.le (journal_meaning B.Store.meaning result) }
+        ensures meaning { journal_meaning B.Store.meaning result ≡ raised (B.Store.meaning below) }
         ensures used { result.own.used ≡ used }
         ensures history { History result.own [] }
     {
@@ -48,7 +48,7 @@ impl<B: Agenda> Journal<B> {
 
     // The i-th oldest of the changes kept, counted from 0, or none.
     pub fn oldest(&self, i: u16) -> Option<Change>
-        requires { journal_sound B.Item.Ordered.le B.Agenda.sound B.Agenda.meaning self.now }
+        requires { journal_sound B.Item.Ordered.le B.Store.sound B.Store.meaning self.now }
         ensures { result ≡ slice_get (recent self.now.own) i }
     {
         self.own.oldest(i)
@@ -59,14 +59,14 @@ impl<B: Agenda> Journal<B> {
 impl<B: Agenda> Agenda for Journal<B> {
     type Item = B::Item;
 
-    ghost meaning = { journal_meaning B.Agenda.meaning };
+    ghost meaning = { journal_meaning B.Store.meaning };
 
-    ghost sound = { journal_sound B.Item.Ordered.le B.Agenda.sound B.Agenda.meaning };
+    ghost sound = { journal_sound B.Item.Ordered.le B.Store.sound B.Store.meaning };
 
     fn put(&mut self, queue: u8, element: B::Item) -> Result<u16, Refusal>
-        requires { journal_sound B.Item.Ordered.le B.Agenda.sound B.Agenda.meaning self.old }
-        ensures sound { journal_sound B.Item.Ordered.le B.Agenda.sound B.Agenda.meaning self.new }
-        ensures effect { Puts B.Item.Ordered.le (journal_meaning B.Agenda.meaning self.old) queue element result (journal_meaning B.Agenda.meaning self.new) }
+        requires { journal_sound B.Item.Ordered.le B.Store.sound B.Store.meaning self.old }
+        ensures sound { journal_sound B.Item.Ordered.le B.Store.sound B.Store.meaning self.new }
+        ensures effect { Puts B.Item.Ordered.le (journal_meaning B.Store.meaning self.old) queue element result (journal_meaning B.Store.meaning self.new) }
         ensures refused { Unchanged result self.old self.new }
         ensures writes { Writes self.old.own (put_change queue result) self.new.own }
     {
@@ -84,9 +84,9 @@ impl<B: Agenda> Agenda for Journal<B> {
     }
 
     fn take(&mut self, queue: u8) -> Result<Option<Entry<B::Item>>, Refusal>
-        requires { journal_sound B.Item.Ordered.le B.Agenda.sound B.Agenda.meaning self.old }
-        ensures sound { journal_sound B.Item.Ordered.le B.Agenda.sound B.Agenda.meaning self.new }
-        ensures effect { Takes B.Item.Ordered.le (journal_meaning B.Agenda.meaning self.old) queue result (journal_meaning B.Agenda.meaning self.new) }
+        requires { journal_sound B.Item.Ordered.le B.Store.sound B.Store.meaning self.old }
+        ensures sound { journal_sound B.Item.Ordered.le B.Store.sound B.Store.meaning self.new }
+        ensures effect { Takes B.Item.Ordered.le (journal_meaning B.Store.meaning self.old) queue result (journal_meaning B.Store.meaning self.new) }
         ensures refused { Unchanged result self.old self.new }
         ensures writes { Writes self.old.own (take_change queue result) self.new.own }
     {
@@ -106,9 +106,9 @@ impl<B: Agenda> Agenda for Journal<B> {
     }
 
     fn meld(&mut self, into: u8, from: u8) -> Result<u16, Refusal>
-        requires { journal_sound B.Item.Ordered.le B.Agenda.sound B.Agenda.meaning self.old }
-        ensures sound { journal_sound B.Item.Ordered.le B.Agenda.sound B.Agenda.meaning self.new }
-        ensures effect { Melds B.Item.Ordered.le (journal_meaning B.Agenda.meaning self.old) into from result (journal_meaning B.Agenda.meaning self.new) }
+        requires { journal_sound B.Item.Ordered.le B.Store.sound B.Store.meaning self.old }
+        ensures sound { journal_sound B.Item.Ordered.le B.Store.sound B.Store.meaning self.new }
+        ensures effect { Melds B.Item.Ordered.le (journal_meaning B.Store.meaning self.old) into from result (journal_meaning B.Store.meaning self.new) }
         ensures refused { Unchanged result self.old self.new }
         ensures writes { Writes self.old.own (meld_change into from result) self.new.own }
     {
@@ -138,9 +138,9 @@ impl<B: Agenda> Agenda for Journal<B> {
     }
 
     fn cancel(&mut self, stamp: u16) -> Result<u8, Refusal>
-        requires { journal_sound B.Item.Ordered.le B.Agenda.sound B.Agenda.meaning self.old }
-        ensures sound { journal_sound B.Item.Ordered.le B.Agenda.sound B.Agenda.meaning self.new }
-        ensures effect { Cancels B.Item.Ordered.le (journal_meaning B.Agenda.meaning self.old) stamp result (journal_meaning B.Agenda.meaning self.new) }
+        requires { journal_sound B.Item.Ordered.le B.Store.sound B.Store.meaning self.old }
+        ensures sound { journal_sound B.Item.Ordered.le B.Store.sound B.Store.meaning self.new }
+        ensures effect { Cancels B.Item.Ordered.le (journal_meaning B.Store.meaning self.old) stamp result (journal_meaning B.Store.meaning self.new) }
         ensures refused { Unchanged result self.old self.new }
         ensures writes { Writes self.old.own (cancel_change stamp result) self.new.own }
     {

@@ -18,8 +18,8 @@ pub struct Lazy<B> {
 impl<B: BareHeap> Lazy<B> {
     // Whether the layer can stand over this heap.
     pub fn fits(below: &B) -> Result<(), Unfit>
-        requires { B.BareHeap.sound below.now }
-        ensures { Tested result (B.BareHeap.meaning below.now) }
+        requires { B.Store.sound below.now }
+        ensures { Tested result (B.Store.meaning below.now) }
     {
         if below.height() == 255 {
             return Err(Unfit::OutOfRange);
@@ -33,13 +33,13 @@ impl<B: BareHeap> Lazy<B> {
 
     // The layer over this heap, with no entry.
     pub fn make(below: B) -> Lazy<B>
-        requires sound { B.BareHeap.sound below }
-        requires formed { WellFormed B.Item.Ordered.le (B.BareHeap.meaning below) }
-        requires bare { Bare (B.BareHeap.meaning below) }
-        requires fit { Fit (B.BareHeap.meaning below) }
-        ensures sound { lazy_sound B.Item.Ordered.le B.BareHeap.sound B.BareHeap.meaning result }
-        ensures formed { WellFormed B.Item.Ordered.le (lazy_meaning B.BareHeap.meaning result) }
-        ensures meaning { lazy_meaning B.BareHeap.meaning result ≡ fresh_lazily (B.BareHeap.meaning below).fixed }
+        requires sound { B.Store.sound below }
+        requires formed { WellFormed B.Item.Ordered.le (B.Store.meaning below) }
+        requires bare { Bare (B.Store.meaning below) }
+        requires fit { Fit (B.Store.meaning below) }
+        ensures sound { lazy_sound B.Item.Ordered.le B.Store.sound B.Store.meaning result }
+        ensures formed { WellFormed B.Item.Ordered.le (lazy_meaning B.Store.meaning result) }
+        ensures meaning { lazy_meaning B.Store.meaning result ≡ fresh_lazily (B.Store.meaning below).fixed }
     {
         let own = Marks::over(below.height());
         Lazy { below, own }
@@ -47,10 +47,10 @@ impl<B: BareHeap> Lazy<B> {
 
     // Is there a front entry, and is it cancelled?
     fn front_cancelled(&self, queue: u8) -> bool
-        requires sound { B.BareHeap.sound self.now.below }
+        requires sound { B.Store.sound self.now.below }
         requires long { length self.now.own.queue_of ≡ 32768 }
         requires near { queue < 32 }
-        ensures { result ≡ front_cancelled self.now.own.queue_of (list_of (B.BareHeap.meaning self.now.below).state queue) }
+        ensures { result ≡ front_cancelled self.now.own.queue_of (list_of (B.Store.meaning self.now.below).state queue) }
     {
         match self.below.first(queue) {
             Ok(front) => match front {
@@ -63,13 +63,13 @@ impl<B: BareHeap> Lazy<B> {
 
     // The cancelled entries at the front of the queue leave the heap.
     fn purge(&mut self, queue: u8)
-        requires sound { B.BareHeap.sound self.old.below }
-        requires formed { WellFormed B.Item.Ordered.le (B.BareHeap.meaning self.old.below) }
-        requires bare { Bare (B.BareHeap.meaning self.old.below) }
+        requires sound { B.Store.sound self.old.below }
+        requires formed { WellFormed B.Item.Ordered.le (B.Store.meaning self.old.below) }
+        requires bare { Bare (B.Store.meaning self.old.below) }
         requires long { length self.old.own.queue_of ≡ 32768 }
         requires near { queue < 32 }
-        ensures sound { B.BareHeap.sound self.new.below }
-        ensures effect { Purges B.Item.Ordered.le self.old.own.queue_of (B.BareHeap.meaning self.old.below) queue (B.BareHeap.meaning self.new.below) }
+        ensures sound { B.Store.sound self.new.below }
+        ensures effect { Purges B.Item.Ordered.le self.old.own.queue_of (B.Store.meaning self.old.below) queue (B.Store.meaning self.new.below) }
         ensures own { self.new.own ≡ self.old.own }
     {
         'purge: while self.front_cancelled(queue) {
@@ -82,9 +82,9 @@ impl<B: BareHeap> Lazy<B> {
 impl<B: BareHeap> Agenda for Lazy<B> {
     type Item = B::Item;
 
-    ghost meaning = { lazy_meaning B.BareHeap.meaning };
+    ghost meaning = { lazy_meaning B.Store.meaning };
 
-    ghost sound = { lazy_sound B.Item.Ordered.le B.BareHeap.sound B.BareHeap.meaning };
+    ghost sound = { lazy_sound B.Item.Ordered.le B.Store.sound B.Store.meaning };
 
     fn put(&mut self, queue: u8, element: B::Item) -> Result<u16, Refusal> {
         match self.below.put(queue, element) {

@@ -51,8 +51,8 @@ fn entry(answer: Result<Option<Entry<Event>>, Refusal>) -> Answer {
 }
 
 fn make_call<S: BareHeap<Item = Event>>(store: &mut S, call: Call) -> Answer
-    requires { S.BareHeap.sound store.old }
-    ensures { S.BareHeap.sound store.new }
+    requires { S.Store.sound store.old }
+    ensures { S.Store.sound store.new }
 {
     match call {
         Call::Put { queue, time } => number(store.put(queue, event(time))),
@@ -65,7 +65,7 @@ fn make_call<S: BareHeap<Item = Event>>(store: &mut S, call: Call) -> Answer
 
 // Each call gives the answer beside it.
 fn run<S: BareHeap<Item = Event>>(store: &mut S, calls: &[(Call, Answer)]) -> Result<(), Fail>
-    requires { S.BareHeap.sound store.old }
+    requires { S.Store.sound store.old }
 {
     for (call, expected) in calls {
         check(make_call(store, *call) == *expected)?;
@@ -184,8 +184,8 @@ fn sizes_that_fit(rt: HostRuntime) {
 
 // Events at the times 0 to 4,095, each once and in no order, go into eight queues.
 fn fill<S: BareHeap<Item = Event>>(store: &mut S) -> Result<(), Fail>
-    requires { S.BareHeap.sound store.old }
-    ensures { S.BareHeap.sound store.new }
+    requires { S.Store.sound store.old }
+    ensures { S.Store.sound store.new }
 {
     for i in 0..4096u16 {
         let time = (i as u32 * 1021) % 4096;
@@ -197,8 +197,8 @@ fn fill<S: BareHeap<Item = Event>>(store: &mut S) -> Result<(), Fail>
 
 // They come out of the first queue by time.
 fn empty<S: BareHeap<Item = Event>>(store: &mut S) -> Result<(), Fail>
-    requires { S.BareHeap.sound store.old }
-    ensures { S.BareHeap.sound store.new }
+    requires { S.Store.sound store.old }
+    ensures { S.Store.sound store.new }
 {
     for queue in 1..8u8 {
         check(number(store.meld(0, queue)) == Answer::Number(512))?;

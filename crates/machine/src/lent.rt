@@ -3,7 +3,7 @@ ghost use Rattle.std.specs.Prelude.{◌≡◌};
 ghost use Rattle.machine.specs.Lent.{short_number};
 
 // Fewer than 9 places for the records of a step, or fewer than 96 bytes for a line of the trace.
-#[derive(Clone, Copy)]
+#[derive(Clone, Copy, PartialEq, Eq, Debug)]
 pub struct TooShort;
 
 impl TooShort {

@@ -2,7 +2,7 @@
 ghost use Rattle.std.specs.Prelude.{◌≡◌, ◌-◌};
 ghost use Rattle.machine.specs.Network.{with_busy};
 
-#[derive(Clone, Copy)]
+#[derive(Clone, Copy, Default, PartialEq, Eq, Debug)]
 pub struct Station {
     pub benches: u8,
     // how many of the benches are at work
@@ -27,8 +27,9 @@ impl Station {
 }
 
 // Stamps are those of the order store for a waiting order, and of the event store for the finish of one in service.
-#[derive(Clone, Copy)]
+#[derive(Clone, Copy, Default, PartialEq, Eq, Debug)]
 pub enum OrderState {
+    #[default]
     NotYet,
     Waiting { stamp: u16 },
     InService { station: u8, stamp: u16 },
@@ -38,7 +39,7 @@ pub enum OrderState {
     Stranded,
 }
 
-#[derive(Clone, Copy)]
+#[derive(Clone, Copy, Default, PartialEq, Eq, Debug)]
 pub struct Order {
     // 0 is the most urgent
     pub urgency: u8,
@@ -48,8 +49,9 @@ pub struct Order {
     pub state: OrderState,
 }
 
-// How many stations and orders were declared: the first ones of their arrays.
-#[derive(Clone, Copy)]
+// How many stations and orders were declared: the first ones of their arrays. They stand beside arrays and are no vectors,
+// since a network is plain memory of a fixed size that is lent to the simulator.
+#[derive(Clone, Copy, Default, PartialEq, Eq, Debug)]
 pub struct Declared {
     pub stations: u8,
     pub orders: u16,

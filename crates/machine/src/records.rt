@@ -1,7 +1,7 @@
 // What a run tells: records, the fault that ended it, and its totals.
 use stores::Refusal;
 
-#[derive(Clone, Copy)]
+#[derive(Clone, Copy, PartialEq, Eq, Debug)]
 pub enum RecordKind {
     Start { order: u16, station: u8 },
     Wait { order: u16, station: u8 },
@@ -14,21 +14,21 @@ pub enum RecordKind {
     Kept { station: u8, into: u8 },
 }
 
-#[derive(Clone, Copy)]
+#[derive(Clone, Copy, PartialEq, Eq, Debug)]
 pub struct Record {
     // in ticks
     pub at: u32,
     pub kind: RecordKind,
 }
 
-#[derive(Clone, Copy)]
+#[derive(Clone, Copy, PartialEq, Eq, Debug)]
 pub enum StoreName {
     Events,
     Orders,
 }
 
 // Why a run ended before its end: the refusal of a put, whose it was, and when.
-#[derive(Clone, Copy)]
+#[derive(Clone, Copy, PartialEq, Eq, Debug)]
 pub struct Fault {
     pub refusal: Refusal,
     pub store: StoreName,
@@ -36,7 +36,7 @@ pub struct Fault {
 }
 
 // What a step tells.
-#[derive(Clone, Copy)]
+#[derive(Clone, Copy, PartialEq, Eq, Debug)]
 pub enum Progress {
     Stepped,
     Ended,
@@ -44,7 +44,7 @@ pub enum Progress {
 }
 
 // The declared orders by state.
-#[derive(Clone, Copy)]
+#[derive(Clone, Copy, Default, PartialEq, Eq, Debug)]
 pub struct Totals {
     // not yet there
     pub pending: u16,

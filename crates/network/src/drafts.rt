@@ -48,8 +48,8 @@ impl<'a> Draft<'a> {
         events: &E,
         orders: &O,
     ) -> Result<(), Unfit>
-        requires sound { (E.Agenda.sound events.now) × (O.Agenda.sound orders.now) }
-        ensures test { MakesDraft result (E.Agenda.meaning events.now) (O.Agenda.meaning orders.now) }
+        requires sound { (E.Store.sound events.now) × (O.Store.sound orders.now) }
+        ensures test { MakesDraft result (E.Store.meaning events.now) (O.Store.meaning orders.now) }
     {
         if events.issued() != 0 {
             return Err(Unfit::NotFresh);
@@ -66,11 +66,11 @@ impl<'a> Draft<'a> {
         events: &E,
         orders: &O,
     ) -> Draft<'a>
-        requires sound { (E.Agenda.sound events.now) × (O.Agenda.sound orders.now) }
-        requires formed { (WellFormed event_le (E.Agenda.meaning events.now)) × (WellFormed line_le (O.Agenda.meaning orders.now)) }
-        requires unused { Unused (E.Agenda.meaning events.now) (O.Agenda.meaning orders.now) }
-        ensures fit { Fit (drafted result (E.Agenda.meaning events.now) (O.Agenda.meaning orders.now) None) }
-        ensures start { machine_of nothing (drafted result (E.Agenda.meaning events.now) (O.Agenda.meaning orders.now) None) ≡ start_machine (bounds_of (E.Agenda.meaning events.now).fixed) (bounds_of (O.Agenda.meaning orders.now).fixed) None }
+        requires sound { (E.Store.sound events.now) × (O.Store.sound orders.now) }
+        requires formed { (WellFormed event_le (E.Store.meaning events.now)) × (WellFormed line_le (O.Store.meaning orders.now)) }
+        requires unused { Unused (E.Store.meaning events.now) (O.Store.meaning orders.now) }
+        ensures fit { Fit (drafted result (E.Store.meaning events.now) (O.Store.meaning orders.now) None) }
+        ensures start { machine_of nothing (drafted result (E.Store.meaning events.now) (O.Store.meaning orders.now) None) ≡ start_machine (bounds_of (E.Store.meaning events.now).fixed) (bounds_of (O.Store.meaning orders.now).fixed) None }
     {
         clear(net);
         Draft { net }

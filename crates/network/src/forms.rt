@@ -56,10 +56,10 @@ impl<'a> Draft<'a> {
         events: &mut E,
         orders: &mut O,
     ) -> Result<(), FormRefusal>
-        requires sound { (E.Agenda.sound events.old) × (O.Agenda.sound orders.old) }
-        requires fit { Fit (drafted self.old (E.Agenda.meaning events.old) (O.Agenda.meaning orders.old) None) }
-        ensures sound { (E.Agenda.sound events.new) × (O.Agenda.sound orders.new) }
-        ensures forms { Forms (a-station station benches takes holds next) (drafted self.old (E.Agenda.meaning events.old) (O.Agenda.meaning orders.old)) (drafted self.new (E.Agenda.meaning events.new) (O.Agenda.meaning orders.new)) (refusal_in result) }
+        requires sound { (E.Store.sound events.old) × (O.Store.sound orders.old) }
+        requires fit { Fit (drafted self.old (E.Store.meaning events.old) (O.Store.meaning orders.old) None) }
+        ensures sound { (E.Store.sound events.new) × (O.Store.sound orders.new) }
+        ensures forms { Forms (a-station station benches takes holds next) (drafted self.old (E.Store.meaning events.old) (O.Store.meaning orders.old)) (drafted self.new (E.Store.meaning events.new) (O.Store.meaning orders.new)) (refusal_in result) }
         ensures refused { ByAnswer result (λ _. Unit {0}) ((self.new ≡ self.old) × (events.new ≡ events.old) × (orders.new ≡ orders.old)) }
     {
         let form = Form::Station {
@@ -97,10 +97,10 @@ impl<'a> Draft<'a> {
         events: &mut E,
         orders: &mut O,
     ) -> Result<(), FormRefusal>
-        requires sound { (E.Agenda.sound events.old) × (O.Agenda.sound orders.old) }
-        requires fit { Fit (drafted self.old (E.Agenda.meaning events.old) (O.Agenda.meaning orders.old) None) }
-        ensures sound { (E.Agenda.sound events.new) × (O.Agenda.sound orders.new) }
-        ensures forms { Forms (an-order order at urgency due start) (drafted self.old (E.Agenda.meaning events.old) (O.Agenda.meaning orders.old)) (drafted self.new (E.Agenda.meaning events.new) (O.Agenda.meaning orders.new)) (refusal_in result) }
+        requires sound { (E.Store.sound events.old) × (O.Store.sound orders.old) }
+        requires fit { Fit (drafted self.old (E.Store.meaning events.old) (O.Store.meaning orders.old) None) }
+        ensures sound { (E.Store.sound events.new) × (O.Store.sound orders.new) }
+        ensures forms { Forms (an-order order at urgency due start) (drafted self.old (E.Store.meaning events.old) (O.Store.meaning orders.old)) (drafted self.new (E.Store.meaning events.new) (O.Store.meaning orders.new)) (refusal_in result) }
         ensures refused { ByAnswer result (λ _. Unit {0}) ((self.new ≡ self.old) × (events.new ≡ events.old) × (orders.new ≡ orders.old)) }
     {
         let form = Form::Order {
@@ -142,10 +142,10 @@ impl<'a> Draft<'a> {
         events: &mut E,
         orders: &mut O,
     ) -> Result<(), FormRefusal>
-        requires sound { (E.Agenda.sound events.old) × (O.Agenda.sound orders.old) }
-        requires fit { Fit (drafted self.old (E.Agenda.meaning events.old) (O.Agenda.meaning orders.old) None) }
-        ensures sound { (E.Agenda.sound events.new) × (O.Agenda.sound orders.new) }
-        ensures forms { Forms (a-withdrawal order at) (drafted self.old (E.Agenda.meaning events.old) (O.Agenda.meaning orders.old)) (drafted self.new (E.Agenda.meaning events.new) (O.Agenda.meaning orders.new)) (refusal_in result) }
+        requires sound { (E.Store.sound events.old) × (O.Store.sound orders.old) }
+        requires fit { Fit (drafted self.old (E.Store.meaning events.old) (O.Store.meaning orders.old) None) }
+        ensures sound { (E.Store.sound events.new) × (O.Store.sound orders.new) }
+        ensures forms { Forms (a-withdrawal order at) (drafted self.old (E.Store.meaning events.old) (O.Store.meaning orders.old)) (drafted self.new (E.Store.meaning events.new) (O.Store.meaning orders.new)) (refusal_in result) }
         ensures refused { ByAnswer result (λ _. Unit {0}) ((self.new ≡ self.old) × (events.new ≡ events.old) × (orders.new ≡ orders.old)) }
     {
         match refusal(self.net, events.issued(), Form::Withdraw { order, at }) {
@@ -171,10 +171,10 @@ impl<'a> Draft<'a> {
         events: &mut E,
         orders: &mut O,
     ) -> Result<(), FormRefusal>
-        requires sound { (E.Agenda.sound events.old) × (O.Agenda.sound orders.old) }
-        requires fit { Fit (drafted self.old (E.Agenda.meaning events.old) (O.Agenda.meaning orders.old) None) }
-        ensures sound { (E.Agenda.sound events.new) × (O.Agenda.sound orders.new) }
-        ensures forms { Forms (a-closing station at into) (drafted self.old (E.Agenda.meaning events.old) (O.Agenda.meaning orders.old)) (drafted self.new (E.Agenda.meaning events.new) (O.Agenda.meaning orders.new)) (refusal_in result) }
+        requires sound { (E.Store.sound events.old) × (O.Store.sound orders.old) }
+        requires fit { Fit (drafted self.old (E.Store.meaning events.old) (O.Store.meaning orders.old) None) }
+        ensures sound { (E.Store.sound events.new) × (O.Store.sound orders.new) }
+        ensures forms { Forms (a-closing station at into) (drafted self.old (E.Store.meaning events.old) (O.Store.meaning orders.old)) (drafted self.new (E.Store.meaning events.new) (O.Store.meaning orders.new)) (refusal_in result) }
         ensures refused { ByAnswer result (λ _. Unit {0}) ((self.new ≡ self.old) × (events.new ≡ events.old) × (orders.new ≡ orders.old)) }
     {
         match refusal(self.net, events.issued(), Form::Close { station, at, into }) {

@@ -31,9 +31,9 @@ impl<'a> Draft<'a> {
         events: &E,
         orders: &O,
     ) -> Result<Running<'a>, (Draft<'a>, FormRefusal)>
-        requires sound { (E.Agenda.sound events.now) × (O.Agenda.sound orders.now) }
-        requires fit { Fit (drafted self (E.Agenda.meaning events.now) (O.Agenda.meaning orders.now) None) }
-        ensures ends { Ends at self.entry (E.Agenda.meaning events.now) (O.Agenda.meaning orders.now) result }
+        requires sound { (E.Store.sound events.now) × (O.Store.sound orders.now) }
+        requires fit { Fit (drafted self (E.Store.meaning events.now) (O.Store.meaning orders.now) None) }
+        ensures ends { Ends at self.entry (E.Store.meaning events.now) (O.Store.meaning orders.now) result }
     {
         match refusal(self.net, events.issued(), Form::End { at }) {
             Some(why) => Err((self, why)),
@@ -60,10 +60,10 @@ impl<'a> Running<'a> {
         orders: &mut O,
         places: &mut [Record],
     ) -> Result<Step, TooShort>
-        requires sound { (E.Agenda.sound events.old) × (O.Agenda.sound orders.old) }
-        requires fit { Fit (running self.old (E.Agenda.meaning events.old) (O.Agenda.meaning orders.old) places.old) }
-        ensures sound { (E.Agenda.sound events.new) × (O.Agenda.sound orders.new) }
-        ensures steps { ByAnswer result (λ s. Steps (before_step self.old (E.Agenda.meaning events.old) (O.Agenda.meaning orders.old) places.old) (running self.new (E.Agenda.meaning events.new) (O.Agenda.meaning orders.new) places.new) s.written s.progress) (length places.old < step_places) }
+        requires sound { (E.Store.sound events.old) × (O.Store.sound orders.old) }
+        requires fit { Fit (running self.old (E.Store.meaning events.old) (O.Store.meaning orders.old) places.old) }
+        ensures sound { (E.Store.sound events.new) × (O.Store.sound orders.new) }
+        ensures steps { ByAnswer result (λ s. Steps (before_step self.old (E.Store.meaning events.old) (O.Store.meaning orders.old) places.old) (running self.new (E.Store.meaning events.new) (O.Store.meaning orders.new) places.new) s.written s.progress) (length places.old < step_places) }
         ensures over { ByAnswer result (λ s. self.new.over ≡ is_over s.progress) (Unit {0}) }
         ensures refused { ByAnswer result (λ _. Unit {0}) ((self.new ≡ self.old) × (events.new ≡ events.old) × (orders.new ≡ orders.old) × (places.new ≡ places.old)) }
     {

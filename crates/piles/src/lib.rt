@@ -22,12 +22,12 @@ pub fn journal_over_quota<B: Agenda + Drop>(
     limits: [u16; 32],
     used: u16,
 ) -> Result<Journal<Quota<B>>, Unfit>
-    requires sound { B.Agenda.sound below }
-    requires formed { WellFormed B.Item.Ordered.le (B.Agenda.meaning below) }
-    ensures test { MadeIf result (TwoMore (B.Agenda.meaning below) × Places used) }
-    ensures sound { OfMade result (journal_sound B.Item.Ordered.le (quota_sound B.Item.Ordered.le B.Agenda.sound B.Agenda.meaning) (quota_meaning B.Agenda.meaning)) }
-    ensures formed { OfMade result (λ p. WellFormed B.Item.Ordered.le (journal_meaning (quota_meaning B.Agenda.meaning) p)) }
-    ensures meaning { OfMade result (λ p. journal_meaning (quota_meaning B.Agenda.meaning) p ≡ raised (with_limits limits (B.Agenda.meaning below))) }
+    requires sound { B.Store.sound below }
+    requires formed { WellFormed B.Item.Ordered.le (B.Store.meaning below) }
+    ensures test { MadeIf result (TwoMore (B.Store.meaning below) × Places used) }
+    ensures sound { OfMade result (journal_sound B.Item.Ordered.le (quota_sound B.Item.Ordered.le B.Store.sound B.Store.meaning) (quota_meaning B.Store.meaning)) }
+    ensures formed { OfMade result (λ p. WellFormed B.Item.Ordered.le (journal_meaning (quota_meaning B.Store.meaning) p)) }
+    ensures meaning { OfMade result (λ p. journal_meaning (quota_meaning B.Store.meaning) p ≡ raised (with_limits limits (B.Store.meaning below))) }
     ensures log { OfMade result (λ p. (p.own.used ≡ used) × History p.own []) }
 {
     Quota::fits(&below)?;
@@ -42,14 +42,14 @@ pub fn journal_over_quota_over_lazy<B: BareHeap + Drop>(
     limits: [u16; 32],
     used: u16,
 ) -> Result<Journal<Quota<Lazy<B>>>, Unfit>
-    requires sound { B.BareHeap.sound below }
-    requires formed { WellFormed B.Item.Ordered.le (B.BareHeap.meaning below) }
-    requires bare { Bare (B.BareHeap.meaning below) }
-    requires unused { (B.BareHeap.meaning below).state.next ≡ 0 }
+    requires sound { B.Store.sound below }
+    requires formed { WellFormed B.Item.Ordered.le (B.Store.meaning below) }
+    requires bare { Bare (B.Store.meaning below) }
+    requires unused { (B.Store.meaning below).state.next ≡ 0 }
     ensures test { MadeIf result (Places used) }
-    ensures sound { OfMade result (journal_sound B.Item.Ordered.le (quota_sound B.Item.Ordered.le (lazy_sound B.Item.Ordered.le B.BareHeap.sound B.BareHeap.meaning) (lazy_meaning B.BareHeap.meaning)) (quota_meaning (lazy_meaning B.BareHeap.meaning))) }
-    ensures formed { OfMade result (λ p. WellFormed B.Item.Ordered.le (journal_meaning (quota_meaning (lazy_meaning B.BareHeap.meaning)) p)) }
-    ensures meaning { OfMade result (λ p. journal_meaning (quota_meaning (lazy_meaning B.BareHeap.meaning)) p ≡ raised (with_limits limits (fresh_lazily (B.BareHeap.meaning below).fixed))) }
+    ensures sound { OfMade result (journal_sound B.Item.Ordered.le (quota_sound B.Item.Ordered.le (lazy_sound B.Item.Ordered.le B.Store.sound B.Store.meaning) (lazy_meaning B.Store.meaning)) (quota_meaning (lazy_meaning B.Store.meaning))) }
+    ensures formed { OfMade result (λ p. WellFormed B.Item.Ordered.le (journal_meaning (quota_meaning (lazy_meaning B.Store.meaning)) p)) }
+    ensures meaning { OfMade result (λ p. journal_meaning (quota_meaning (lazy_meaning B.Store.meaning)) p ≡ raised (with_limits limits (fresh_lazily (B.Store.meaning below).fixed))) }
     ensures log { OfMade result (λ p. (p.own.used ≡ used) × History p.own []) }
 {
     Lazy::fits(&below)?;
@@ -62,12 +62,12 @@ pub fn quota_over_quota<B: Agenda + Drop>(
     inner: [u16; 32],
     outer: [u16; 32],
 ) -> Result<Quota<Quota<B>>, Unfit>
-    requires sound { B.Agenda.sound below }
-    requires formed { WellFormed B.Item.Ordered.le (B.Agenda.meaning below) }
-    ensures test { MadeIf result (TwoMore (B.Agenda.meaning below)) }
-    ensures sound { OfMade result (quota_sound B.Item.Ordered.le (quota_sound B.Item.Ordered.le B.Agenda.sound B.Agenda.meaning) (quota_meaning B.Agenda.meaning)) }
-    ensures formed { OfMade result (λ p. WellFormed B.Item.Ordered.le (quota_meaning (quota_meaning B.Agenda.meaning) p)) }
-    ensures meaning { OfMade result (λ p. quota_meaning (quota_meaning B.Agenda.meaning) p ≡ with_limits outer (with_limits inner (B.Agenda.meaning below))) }
+    requires sound { B.Store.sound below }
+    requires formed { WellFormed B.Item.Ordered.le (B.Store.meaning below) }
+    ensures test { MadeIf result (TwoMore (B.Store.meaning below)) }
+    ensures sound { OfMade result (quota_sound B.Item.Ordered.le (quota_sound B.Item.Ordered.le B.Store.sound B.Store.meaning) (quota_meaning B.Store.meaning)) }
+    ensures formed { OfMade result (λ p. WellFormed B.Item.Ordered.le (quota_meaning (quota_meaning B.Store.meaning) p)) }
+    ensures meaning { OfMade result (λ p. quota_meaning (quota_meaning B.Store.meaning) p ≡ with_limits outer (with_limits inner (B.Store.meaning below))) }
 {
     Quota::fits(&below)?;
     let quota = Quota::make(below, inner);
@@ -81,12 +81,12 @@ pub fn journal_over_journal<B: Agenda + Drop>(
     inner: u16,
     outer: u16,
 ) -> Result<Journal<Journal<B>>, Unfit>
-    requires sound { B.Agenda.sound below }
-    requires formed { WellFormed B.Item.Ordered.le (B.Agenda.meaning below) }
-    ensures test { MadeIf result (TwoMore (B.Agenda.meaning below) × Places inner × Places outer) }
-    ensures sound { OfMade result (journal_sound B.Item.Ordered.le (journal_sound B.Item.Ordered.le B.Agenda.sound B.Agenda.meaning) (journal_meaning B.Agenda.meaning)) }
-    ensures formed { OfMade result (λ p. WellFormed B.Item.Ordered.le (journal_meaning (journal_meaning B.Agenda.meaning) p)) }
-    ensures meaning { OfMade result (λ p. journal_meaning (journal_meaning B.Agenda.meaning) p ≡ raised (raised (B.Agenda.meaning below))) }
+    requires sound { B.Store.sound below }
+    requires formed { WellFormed B.Item.Ordered.le (B.Store.meaning below) }
+    ensures test { MadeIf result (TwoMore (B.Store.meaning below) × Places inner × Places outer) }
+    ensures sound { OfMade result (journal_sound B.Item.Ordered.le (journal_sound B.Item.Ordered.le B.Store.sound B.Store.meaning) (journal_meaning B.Store.meaning)) }
+    ensures formed { OfMade result (λ p. WellFormed B.Item.Ordered.le (journal_meaning (journal_meaning B.Store.meaning) p)) }
+    ensures meaning { OfMade result (λ p. journal_meaning (journal_meaning B.Store.meaning) p ≡ raised (raised (B.Store.meaning below))) }
     ensures log { OfMade result (λ p. (p.own.used ≡ outer) × History p.own []) }
 {
     Journal::fits(&below, inner)?;

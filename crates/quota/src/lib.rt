@@ -57,8 +57,8 @@ pub struct Quota<B> {
 impl<B: Agenda> Quota<B> {
     // Whether the layer can stand over this store.
     pub fn fits(below: &B) -> Result<(), Unfit>
-        requires { B.Agenda.sound below.now }
-        ensures { Tests result OutOfRange (Fit (B.Agenda.meaning below.now)) }
+        requires { B.Store.sound below.now }
+        ensures { Tests result OutOfRange (Fit (B.Store.meaning below.now)) }
     {
         if below.height() == 255 {
             Err(Unfit::OutOfRange)
@@ -69,12 +69,12 @@ impl<B: Agenda> Quota<B> {
 
     // The layer over this store, with a limit for each queue.
     pub fn make(below: B, limits: [u16; 32]) -> Quota<B>
-        requires sound { B.Agenda.sound below }
-        requires formed { WellFormed B.Item.Ordered.le (B.Agenda.meaning below) }
-        requires fit { Fit (B.Agenda.meaning below) }
-        ensures sound { quota_sound B.Item.Ordered.le B.Agenda.sound B.Agenda.meaning result }
-        ensures formed { WellFormed B.Item.Ordered.le (quota_meaning B.Agenda.meaning result) }
-        ensures meaning { quota_meaning B.Agenda.meaning result ≡ with_limits limits (B.Agenda.meaning below) }
+        requires sound { B.Store.sound below }
+        requires formed { WellFormed B.Item.Ordered.le (B.Store.meaning below) }
+        requires fit { Fit (B.Store.meaning below) }
+        ensures sound { quota_sound B.Item.Ordered.le B.Store.sound B.Store.meaning result }
+        ensures formed { WellFormed B.Item.Ordered.le (quota_meaning B.Store.meaning result) }
+        ensures meaning { quota_meaning B.Store.meaning result ≡ with_limits limits (B.Store.meaning below) }
     {
         let own = Limits::over(below.height(), limits);
         Quota { below, own }
@@ -85,9 +85,9 @@ impl<B: Agenda> Quota<B> {
 impl<B: Agenda> Agenda for Quota<B> {
     type Item = B::Item;
 
-    ghost meaning = { quota_meaning B.Agenda.meaning };
+    ghost meaning = { quota_meaning B.Store.meaning };
 
-    ghost sound = { quota_sound B.Item.Ordered.le B.Agenda.sound B.Agenda.meaning };
+    ghost sound = { quota_sound B.Item.Ordered.le B.Store.sound B.Store.meaning };
 
     fn put(&mut self, queue: u8, element: B::Item) -> Result<u16, Refusal> {
         match self.below.count(queue) {

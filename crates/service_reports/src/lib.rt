@@ -46,10 +46,10 @@ fn orders_text<A: Agenda<Item = LineEntry>>(
     orders: &[LineEntry],
     heap: Global,
 ) -> Result<String, AllocError>
-    requires { A.Agenda.sound line.old }
-    ensures sound { A.Agenda.sound line.new }
-    ensures effect { MatchResult result (λ s. Told (A.Agenda.meaning line.old) orders.now (string_bytes s) (A.Agenda.meaning line.new)) (λ _. Untold (A.Agenda.meaning line.old) orders.now (A.Agenda.meaning line.new)) }
-    ensures unused { Unused line_le (A.Agenda.meaning line.old) → IfOk result (λ s. Shown (A.Agenda.meaning line.old).fixed.cells (A.Agenda.meaning line.old).fixed.stamps orders.now (string_bytes s)) }
+    requires { A.Store.sound line.old }
+    ensures sound { A.Store.sound line.new }
+    ensures effect { MatchResult result (λ s. Told (A.Store.meaning line.old) orders.now (string_bytes s) (A.Store.meaning line.new)) (λ _. Untold (A.Store.meaning line.old) orders.now (A.Store.meaning line.new)) }
+    ensures unused { Unused line_le (A.Store.meaning line.old) → IfOk result (λ s. Shown (A.Store.meaning line.old).fixed.cells (A.Store.meaning line.old).fixed.stamps orders.now (string_bytes s)) }
 {
     match order_of_service(line, orders, heap) {
         Ok(served) => service_text(&served, heap),
@@ -63,10 +63,10 @@ pub fn report<A: Agenda<Item = LineEntry>>(
     text: &[u8],
     heap: Global,
 ) -> Result<String, AllocError>
-    requires { A.Agenda.sound line.old }
-    ensures sound { A.Agenda.sound line.new }
-    ensures effect { MatchResult result (λ s. Reported (A.Agenda.meaning line.old) text.now (string_bytes s) (A.Agenda.meaning line.new)) (λ _. Unreported (A.Agenda.meaning line.old) text.now (A.Agenda.meaning line.new)) }
-    ensures unused { Unused line_le (A.Agenda.meaning line.old) → IfOk result (λ s. Printed (A.Agenda.meaning line.old).fixed.cells (A.Agenda.meaning line.old).fixed.stamps text.now (string_bytes s)) }
+    requires { A.Store.sound line.old }
+    ensures sound { A.Store.sound line.new }
+    ensures effect { MatchResult result (λ s. Reported (A.Store.meaning line.old) text.now (string_bytes s) (A.Store.meaning line.new)) (λ _. Unreported (A.Store.meaning line.old) text.now (A.Store.meaning line.new)) }
+    ensures unused { Unused line_le (A.Store.meaning line.old) → IfOk result (λ s. Printed (A.Store.meaning line.old).fixed.cells (A.Store.meaning line.old).fixed.stamps text.now (string_bytes s)) }
 {
     match read_orders(text, heap) {
         Ok(orders) => orders_text(line, &orders, heap),

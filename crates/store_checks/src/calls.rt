@@ -60,9 +60,9 @@ fn fronted(answer: Result<Option<Entry<LineEntry>>, Refusal>) -> Answer
 
 // Calls the store.
 pub fn make_call<A: Agenda<Item = LineEntry>>(store: &mut A, call: Call) -> Answer
-    requires { A.Agenda.sound store.old }
-    ensures sound { A.Agenda.sound store.new }
-    ensures answer { result ≡ answer_to (A.Agenda.meaning store.old) call }
+    requires { A.Store.sound store.old }
+    ensures sound { A.Store.sound store.new }
+    ensures answer { result ≡ answer_to (A.Store.meaning store.old) call }
 {
     match call {
         Call::Put(queue, order, urgency) => {

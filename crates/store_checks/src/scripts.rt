@@ -78,8 +78,8 @@ pub fn passes<A: Agenda<Item = LineEntry>>(
     store: &mut A,
     script: &[(Call, Answer)],
 ) -> Result<(), Fail>
-    requires { A.Agenda.sound store.old }
-    ensures { A.Agenda.sound store.new }
+    requires { A.Store.sound store.old }
+    ensures { A.Store.sound store.new }
 {
     for (asked, answer) in script {
         let given = make_call(store, *asked);

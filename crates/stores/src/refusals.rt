@@ -1,10 +1,9 @@
 // Why a store refuses a call, and why it cannot be made.
-ghost use Rattle.std.specs.Prelude.{◌≡◌, true, false, MatchBool};
+ghost use Rattle.std.specs.Prelude.{◌≡◌};
 ghost use Rattle.stores.specs.Refusals.{number_of, height_of, unfit_number};
-ghost use Rattle.stores.specs.Meaning.{Sizes};
 
 // Why a call is refused. A limit and a stamp in no queue are told with the height of the layer that says so.
-#[derive(Clone, Copy)]
+#[derive(Clone, Copy, PartialEq, Eq, Debug)]
 pub enum Refusal {
     QueueNumber,
     SameQueue,
@@ -34,36 +33,23 @@ impl Refusal {
         match self {
             Refusal::AtLimit { height } => *height,
             Refusal::NotQueued { height } => *height,
-            Refusal::QueueNumber => 0,
-            Refusal::SameQueue => 0,
-            Refusal::NoCell => 0,
-            Refusal::NoStamp => 0,
+            Refusal::QueueNumber | Refusal::SameQueue | Refusal::NoCell | Refusal::NoStamp => 0,
         }
     }
 }
 
 // Why a store or a layer cannot be made: a size, a length or a height is out of its range, or the store below has
 // issued stamps already.
-#[derive(Clone, Copy)]
+#[derive(Clone, Copy, PartialEq, Eq, Debug)]
 pub enum Unfit {
-    OutOfRange,
-    NotFresh,
+    OutOfRange = 1,
+    NotFresh = 2,
 }
 
 impl Unfit {
     pub fn number(&self) -> u8
         ensures { result ≡ unfit_number self.now }
     {
-        match self {
-            Unfit::OutOfRange => 1,
-            Unfit::NotFresh => 2,
-        }
+        *self as u8
     }
-}
-
-// Whether a store may have so many cells and stamps.
-pub fn sizes_allowed(cells: u16, stamps: u16) -> bool
-    ensures { MatchBool result (Sizes cells stamps) (Sizes cells stamps → ⊥) }
-{
-    cells >= 1 && cells <= 4096 && stamps >= 1 && stamps <= 32768
 }

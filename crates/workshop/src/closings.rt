@@ -48,10 +48,10 @@ impl<'a> Workshop<'a> {
     )
         requires declared { IsStation j }
         requires place { self.old.used < length places.old }
-        requires sound { (E.Agenda.sound events.old) × (O.Agenda.sound orders.old) }
-        requires fit { Fit (simulated self.old (E.Agenda.meaning events.old) (O.Agenda.meaning orders.old) places.old) }
-        ensures sound { (E.Agenda.sound events.new) × (O.Agenda.sound orders.new) }
-        ensures turn { (n : ℕ) (a : Simulation) → Call (fill n j) n a (simulated self.old (E.Agenda.meaning events.old) (O.Agenda.meaning orders.old) places.old) → Call (fill (n + 1) j) (n + 1) a (simulated self.new (E.Agenda.meaning events.new) (O.Agenda.meaning orders.new) places.new) }
+        requires sound { (E.Store.sound events.old) × (O.Store.sound orders.old) }
+        requires fit { Fit (simulated self.old (E.Store.meaning events.old) (O.Store.meaning orders.old) places.old) }
+        ensures sound { (E.Store.sound events.new) × (O.Store.sound orders.new) }
+        ensures turn { (n : ℕ) (a : Simulation) → Call (fill n j) n a (simulated self.old (E.Store.meaning events.old) (O.Store.meaning orders.old) places.old) → Call (fill (n + 1) j) (n + 1) a (simulated self.new (E.Store.meaning events.new) (O.Store.meaning orders.new) places.new) }
     {
         let station = self.net.stations[j as usize];
         match self.fault {
@@ -74,10 +74,10 @@ impl<'a> Workshop<'a> {
     )
         requires declared { IsStation j }
         requires places { self.old.used + 8 ≤ length places.old }
-        requires sound { (E.Agenda.sound events.old) × (O.Agenda.sound orders.old) }
-        requires fit { Fit (simulated self.old (E.Agenda.meaning events.old) (O.Agenda.meaning orders.old) places.old) }
-        ensures sound { (E.Agenda.sound events.new) × (O.Agenda.sound orders.new) }
-        ensures call { Call (fill 8 j) 8 (simulated self.old (E.Agenda.meaning events.old) (O.Agenda.meaning orders.old) places.old) (simulated self.new (E.Agenda.meaning events.new) (O.Agenda.meaning orders.new) places.new) }
+        requires sound { (E.Store.sound events.old) × (O.Store.sound orders.old) }
+        requires fit { Fit (simulated self.old (E.Store.meaning events.old) (O.Store.meaning orders.old) places.old) }
+        ensures sound { (E.Store.sound events.new) × (O.Store.sound orders.new) }
+        ensures call { Call (fill 8 j) 8 (simulated self.old (E.Store.meaning events.old) (O.Store.meaning orders.old) places.old) (simulated self.new (E.Store.meaning events.new) (O.Store.meaning orders.new) places.new) }
     {
         let mut turn: u8 = 0;
         'fill: while turn < 8 {
@@ -98,10 +98,10 @@ impl<'a> Workshop<'a> {
         requires declared { IsStation k }
         requires second { IsStation j }
         requires places { self.old.used + 9 ≤ length places.old }
-        requires sound { (E.Agenda.sound events.old) × (O.Agenda.sound orders.old) }
-        requires fit { Fit (simulated self.old (E.Agenda.meaning events.old) (O.Agenda.meaning orders.old) places.old) }
-        ensures sound { (E.Agenda.sound events.new) × (O.Agenda.sound orders.new) }
-        ensures call { Call (close k j) 9 (simulated self.old (E.Agenda.meaning events.old) (O.Agenda.meaning orders.old) places.old) (simulated self.new (E.Agenda.meaning events.new) (O.Agenda.meaning orders.new) places.new) }
+        requires sound { (E.Store.sound events.old) × (O.Store.sound orders.old) }
+        requires fit { Fit (simulated self.old (E.Store.meaning events.old) (O.Store.meaning orders.old) places.old) }
+        ensures sound { (E.Store.sound events.new) × (O.Store.sound orders.new) }
+        ensures call { Call (close k j) 9 (simulated self.old (E.Store.meaning events.old) (O.Store.meaning orders.old) places.old) (simulated self.new (E.Store.meaning events.new) (O.Store.meaning orders.new) places.new) }
     {
         if self.stays_open(k, j) {
             self.note(

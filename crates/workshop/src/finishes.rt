@@ -35,10 +35,10 @@ impl<'a> Workshop<'a> {
         requires order { IsOrder hand.order }
         requires declared { IsStation k }
         requires place { self.old.used < length places.old }
-        requires sound { (E.Agenda.sound events.old) × (O.Agenda.sound orders.old) }
-        requires fit { Fit (simulated self.old (E.Agenda.meaning events.old) (O.Agenda.meaning orders.old) places.old) }
-        ensures sound { (E.Agenda.sound events.new) × (O.Agenda.sound orders.new) }
-        ensures call { Call (leave hand.order k) 1 (simulated self.old (E.Agenda.meaning events.old) (O.Agenda.meaning orders.old) places.old) (simulated self.new (E.Agenda.meaning events.new) (O.Agenda.meaning orders.new) places.new) }
+        requires sound { (E.Store.sound events.old) × (O.Store.sound orders.old) }
+        requires fit { Fit (simulated self.old (E.Store.meaning events.old) (O.Store.meaning orders.old) places.old) }
+        ensures sound { (E.Store.sound events.new) × (O.Store.sound orders.new) }
+        ensures call { Call (leave hand.order k) 1 (simulated self.old (E.Store.meaning events.old) (O.Store.meaning orders.old) places.old) (simulated self.new (E.Store.meaning events.new) (O.Store.meaning orders.new) places.new) }
     {
         let next = self.net.stations[k as usize].next;
         match next {
@@ -60,10 +60,10 @@ impl<'a> Workshop<'a> {
         requires order { IsOrder hand.order }
         requires declared { IsStation k }
         requires places { self.old.used + 3 ≤ length places.old }
-        requires sound { (E.Agenda.sound events.old) × (O.Agenda.sound orders.old) }
-        requires fit { Fit (simulated self.old (E.Agenda.meaning events.old) (O.Agenda.meaning orders.old) places.old) }
-        ensures sound { (E.Agenda.sound events.new) × (O.Agenda.sound orders.new) }
-        ensures call { Call (finish hand.order k) 3 (simulated self.old (E.Agenda.meaning events.old) (O.Agenda.meaning orders.old) places.old) (simulated self.new (E.Agenda.meaning events.new) (O.Agenda.meaning orders.new) places.new) }
+        requires sound { (E.Store.sound events.old) × (O.Store.sound orders.old) }
+        requires fit { Fit (simulated self.old (E.Store.meaning events.old) (O.Store.meaning orders.old) places.old) }
+        ensures sound { (E.Store.sound events.new) × (O.Store.sound orders.new) }
+        ensures call { Call (finish hand.order k) 3 (simulated self.old (E.Store.meaning events.old) (O.Store.meaning orders.old) places.old) (simulated self.new (E.Store.meaning events.new) (O.Store.meaning orders.new) places.new) }
     {
         self.vacate(hand.order, k, places);
         self.start_front(k, events, orders, places);

@@ -39,10 +39,10 @@ impl<'a> Workshop<'a> {
         requires declared { IsStation k }
         requires place { self.old.used < length places.old }
         requires bench { (station self.old.net.now k).busy < 8 }
-        requires sound { (E.Agenda.sound events.old) × (O.Agenda.sound orders.old) }
-        requires fit { Fit (simulated self.old (E.Agenda.meaning events.old) (O.Agenda.meaning orders.old) places.old) }
-        ensures sound { (E.Agenda.sound events.new) × (O.Agenda.sound orders.new) }
-        ensures call { Call (start hand.order k) 1 (simulated self.old (E.Agenda.meaning events.old) (O.Agenda.meaning orders.old) places.old) (simulated self.new (E.Agenda.meaning events.new) (O.Agenda.meaning orders.new) places.new) }
+        requires sound { (E.Store.sound events.old) × (O.Store.sound orders.old) }
+        requires fit { Fit (simulated self.old (E.Store.meaning events.old) (O.Store.meaning orders.old) places.old) }
+        ensures sound { (E.Store.sound events.new) × (O.Store.sound orders.new) }
+        ensures call { Call (start hand.order k) 1 (simulated self.old (E.Store.meaning events.old) (O.Store.meaning orders.old) places.old) (simulated self.new (E.Store.meaning events.new) (O.Store.meaning orders.new) places.new) }
     {
         let takes = self.net.stations[k as usize].takes;
         let event = Event {
@@ -74,10 +74,10 @@ impl<'a> Workshop<'a> {
         requires order { IsOrder hand.order }
         requires declared { IsStation k }
         requires place { self.old.used < length places.old }
-        requires sound { (E.Agenda.sound events.old) × (O.Agenda.sound orders.old) }
-        requires fit { Fit (simulated self.old (E.Agenda.meaning events.old) (O.Agenda.meaning orders.old) places.old) }
-        ensures sound { (E.Agenda.sound events.new) × (O.Agenda.sound orders.new) }
-        ensures call { Call (wait hand.order k) 1 (simulated self.old (E.Agenda.meaning events.old) (O.Agenda.meaning orders.old) places.old) (simulated self.new (E.Agenda.meaning events.new) (O.Agenda.meaning orders.new) places.new) }
+        requires sound { (E.Store.sound events.old) × (O.Store.sound orders.old) }
+        requires fit { Fit (simulated self.old (E.Store.meaning events.old) (O.Store.meaning orders.old) places.old) }
+        ensures sound { (E.Store.sound events.new) × (O.Store.sound orders.new) }
+        ensures call { Call (wait hand.order k) 1 (simulated self.old (E.Store.meaning events.old) (O.Store.meaning orders.old) places.old) (simulated self.new (E.Store.meaning events.new) (O.Store.meaning orders.new) places.new) }
     {
         let i = hand.order as usize;
         let entry = LineEntry {
@@ -131,10 +131,10 @@ impl<'a> Workshop<'a> {
         requires order { IsOrder hand.order }
         requires declared { IsStation k }
         requires place { self.old.used < length places.old }
-        requires sound { (E.Agenda.sound events.old) × (O.Agenda.sound orders.old) }
-        requires fit { Fit (simulated self.old (E.Agenda.meaning events.old) (O.Agenda.meaning orders.old) places.old) }
-        ensures sound { (E.Agenda.sound events.new) × (O.Agenda.sound orders.new) }
-        ensures call { Call (enter hand.order k) 1 (simulated self.old (E.Agenda.meaning events.old) (O.Agenda.meaning orders.old) places.old) (simulated self.new (E.Agenda.meaning events.new) (O.Agenda.meaning orders.new) places.new) }
+        requires sound { (E.Store.sound events.old) × (O.Store.sound orders.old) }
+        requires fit { Fit (simulated self.old (E.Store.meaning events.old) (O.Store.meaning orders.old) places.old) }
+        ensures sound { (E.Store.sound events.new) × (O.Store.sound orders.new) }
+        ensures call { Call (enter hand.order k) 1 (simulated self.old (E.Store.meaning events.old) (O.Store.meaning orders.old) places.old) (simulated self.new (E.Store.meaning events.new) (O.Store.meaning orders.new) places.new) }
     {
         let r = self.open_station(k);
         let station = self.net.stations[r as usize];
@@ -156,10 +156,10 @@ impl<'a> Workshop<'a> {
         requires declared { IsStation k }
         requires place { self.old.used < length places.old }
         requires bench { (station self.old.net.now k).busy < 8 }
-        requires sound { (E.Agenda.sound events.old) × (O.Agenda.sound orders.old) }
-        requires fit { Fit (simulated self.old (E.Agenda.meaning events.old) (O.Agenda.meaning orders.old) places.old) }
-        ensures sound { (E.Agenda.sound events.new) × (O.Agenda.sound orders.new) }
-        ensures call { Call (start_front k) 1 (simulated self.old (E.Agenda.meaning events.old) (O.Agenda.meaning orders.old) places.old) (simulated self.new (E.Agenda.meaning events.new) (O.Agenda.meaning orders.new) places.new) }
+        requires sound { (E.Store.sound events.old) × (O.Store.sound orders.old) }
+        requires fit { Fit (simulated self.old (E.Store.meaning events.old) (O.Store.meaning orders.old) places.old) }
+        ensures sound { (E.Store.sound events.new) × (O.Store.sound orders.new) }
+        ensures call { Call (start_front k) 1 (simulated self.old (E.Store.meaning events.old) (O.Store.meaning orders.old) places.old) (simulated self.new (E.Store.meaning events.new) (O.Store.meaning orders.new) places.new) }
     {
         match orders.take(k) {
             Ok(front) => match front {

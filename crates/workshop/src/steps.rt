@@ -26,8 +26,8 @@ pub struct Step {
 impl<'a> Workshop<'a> {
     // The event that a step takes: none after a fault, and none where the front one is later than the end.
     fn due<E: Agenda<Item = Event>>(&self, events: &E) -> Option<Event>
-        requires sound { E.Agenda.sound events.now }
-        ensures answer { result ≡ due_by self.now.fault (Some self.now.end) (front (list_of (E.Agenda.meaning events.now).state 0)) }
+        requires sound { E.Store.sound events.now }
+        ensures answer { result ≡ due_by self.now.fault (Some self.now.end) (front (list_of (E.Store.meaning events.now).state 0)) }
     {
         match self.fault {
             Some(_) => None,
@@ -70,10 +70,10 @@ impl<'a> Workshop<'a> {
     )
         requires kind { KindFit kind }
         requires places { self.old.used + step_places ≤ length places.old }
-        requires sound { (E.Agenda.sound events.old) × (O.Agenda.sound orders.old) }
-        requires fit { Fit (simulated self.old (E.Agenda.meaning events.old) (O.Agenda.meaning orders.old) places.old) }
-        ensures sound { (E.Agenda.sound events.new) × (O.Agenda.sound orders.new) }
-        ensures call { Call (react kind) step_places (simulated self.old (E.Agenda.meaning events.old) (O.Agenda.meaning orders.old) places.old) (simulated self.new (E.Agenda.meaning events.new) (O.Agenda.meaning orders.new) places.new) }
+        requires sound { (E.Store.sound events.old) × (O.Store.sound orders.old) }
+        requires fit { Fit (simulated self.old (E.Store.meaning events.old) (O.Store.meaning orders.old) places.old) }
+        ensures sound { (E.Store.sound events.new) × (O.Store.sound orders.new) }
+        ensures call { Call (react kind) step_places (simulated self.old (E.Store.meaning events.old) (O.Store.meaning orders.old) places.old) (simulated self.new (E.Store.meaning events.new) (O.Store.meaning orders.new) places.new) }
     {
         match kind {
             EventKind::Arrive { order, station } => {
@@ -103,11 +103,11 @@ impl<'a> Workshop<'a> {
         places: &mut [Record],
     ) -> Option<Event>
         requires places { self.old.used + step_places ≤ length places.old }
-        requires sound { (E.Agenda.sound events.old) × (O.Agenda.sound orders.old) }
-        requires fit { Fit (simulated self.old (E.Agenda.meaning events.old) (O.Agenda.meaning orders.old) places.old) }
-        ensures sound { (E.Agenda.sound events.new) × (O.Agenda.sound orders.new) }
-        ensures call { Call step step_places (simulated self.old (E.Agenda.meaning events.old) (O.Agenda.meaning orders.old) places.old) (simulated self.new (E.Agenda.meaning events.new) (O.Agenda.meaning orders.new) places.new) }
-        ensures answer { result ≡ due_in (simulated self.old (E.Agenda.meaning events.old) (O.Agenda.meaning orders.old) places.old) }
+        requires sound { (E.Store.sound events.old) × (O.Store.sound orders.old) }
+        requires fit { Fit (simulated self.old (E.Store.meaning events.old) (O.Store.meaning orders.old) places.old) }
+        ensures sound { (E.Store.sound events.new) × (O.Store.sound orders.new) }
+        ensures call { Call step step_places (simulated self.old (E.Store.meaning events.old) (O.Store.meaning orders.old) places.old) (simulated self.new (E.Store.meaning events.new) (O.Store.meaning orders.new) places.new) }
+        ensures answer { result ≡ due_in (simulated self.old (E.Store.meaning events.old) (O.Store.meaning orders.old) places.old) }
     {
         let due = self.due(events);
         match due {
@@ -128,10 +128,10 @@ impl<'a> Workshop<'a> {
         orders: &mut O,
         places: &mut [Record],
     ) -> Result<Step, TooShort>
-        requires sound { (E.Agenda.sound events.old) × (O.Agenda.sound orders.old) }
-        requires fit { Fit (simulated self.old (E.Agenda.meaning events.old) (O.Agenda.meaning orders.old) places.old) }
-        ensures sound { (E.Agenda.sound events.new) × (O.Agenda.sound orders.new) }
-        ensures steps { ByAnswer result (λ s. Steps (at_start self.old (E.Agenda.meaning events.old) (O.Agenda.meaning orders.old) places.old) (simulated self.new (E.Agenda.meaning events.new) (O.Agenda.meaning orders.new) places.new) s.written s.progress) (length places.old < step_places) }
+        requires sound { (E.Store.sound events.old) × (O.Store.sound orders.old) }
+        requires fit { Fit (simulated self.old (E.Store.meaning events.old) (O.Store.meaning orders.old) places.old) }
+        ensures sound { (E.Store.sound events.new) × (O.Store.sound orders.new) }
+        ensures steps { ByAnswer result (λ s. Steps (at_start self.old (E.Store.meaning events.old) (O.Store.meaning orders.old) places.old) (simulated self.new (E.Store.meaning events.new) (O.Store.meaning orders.new) places.new) s.written s.progress) (length places.old < step_places) }
         ensures refused { ByAnswer result (λ _. Unit {0}) ((self.new ≡ self.old) × (events.new ≡ events.old) × (orders.new ≡ orders.old) × (places.new ≡ places.old)) }
     {
         if places.len() < STEP_PLACES {

@@ -69,10 +69,10 @@ impl<'a> Workshop<'a> {
         requires order { IsOrder i }
         requires kind { kind ≡ Withdraw i }
         requires places { self.old.used + 2 ≤ length places.old }
-        requires sound { (E.Agenda.sound events.old) × (O.Agenda.sound orders.old) }
-        requires fit { Fit (simulated self.old (E.Agenda.meaning events.old) (O.Agenda.meaning orders.old) places.old) }
-        ensures sound { (E.Agenda.sound events.new) × (O.Agenda.sound orders.new) }
-        ensures call { Call (withdraw i) 2 (simulated self.old (E.Agenda.meaning events.old) (O.Agenda.meaning orders.old) places.old) (simulated self.new (E.Agenda.meaning events.new) (O.Agenda.meaning orders.new) places.new) }
+        requires sound { (E.Store.sound events.old) × (O.Store.sound orders.old) }
+        requires fit { Fit (simulated self.old (E.Store.meaning events.old) (O.Store.meaning orders.old) places.old) }
+        ensures sound { (E.Store.sound events.new) × (O.Store.sound orders.new) }
+        ensures call { Call (withdraw i) 2 (simulated self.old (E.Store.meaning events.old) (O.Store.meaning orders.old) places.old) (simulated self.new (E.Store.meaning events.new) (O.Store.meaning orders.new) places.new) }
     {
         match self.pull_out(i, kind) {
             Withdrawal::FromLine { stamp } => {

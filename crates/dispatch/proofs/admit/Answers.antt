@@ -12,7 +12,7 @@ put-requires g c = c.loop-index.invariant.0
 pub returns-in-Err : goal.returns-in-Err
 returns-in-Err g c = record {
   sound = c.put.ensures.sound;
-  effect = rejected line_le _ _ _ _ _ _ c.loop-index-test.true c.loop-index.invariant.1 c.in-Err.refusal c.in-Err.ensures.effect (ap g.A.Agenda.meaning c.in-Err.ensures.refused);
+  effect = rejected line_le _ _ _ _ _ _ c.loop-index-test.true c.loop-index.invariant.1 c.in-Err.refusal c.in-Err.ensures.effect (ap g.A.Store.meaning c.in-Err.ensures.refused);
 }
 
 pub loop-index-preserved : goal.loop-index-preserved

@@ -5,5 +5,5 @@ use Rattle.dispatch.proofs.admit.Given as goal
 
 abbrev pub invariant-loop-index : goal.invariant-loop-index
 invariant-loop-index g l =
-    g.A.Agenda.sound l.line
-    × Admitted line_le (g.A.Agenda.meaning l.initial.line) (take l.index l.orders) (g.A.Agenda.meaning l.line)
+    g.A.Store.sound l.line
+    × Admitted line_le (g.A.Store.meaning l.initial.line) (take l.index l.orders) (g.A.Store.meaning l.line)

@@ -6,9 +6,9 @@ use Rattle.dispatch.proofs.serve.Given as goal
 
 abbrev pub invariant-serving : goal.invariant-serving
 invariant-serving g l =
-    g.A.Agenda.sound l.line
-    × Serving line_le (g.A.Agenda.meaning l.initial.line) (vec_items l.served) (g.A.Agenda.meaning l.line)
-    × (vec_len l.served + length (list_of (g.A.Agenda.meaning l.line).state 0) ≤ vec_capacity l.served)
+    g.A.Store.sound l.line
+    × Serving line_le (g.A.Store.meaning l.initial.line) (vec_items l.served) (g.A.Store.meaning l.line)
+    × (vec_len l.served + length (list_of (g.A.Store.meaning l.line).state 0) ≤ vec_capacity l.served)
 
 abbrev pub decreases-serving : goal.decreases-serving
-decreases-serving g l = length (list_of (g.A.Agenda.meaning l.line).state 0)
+decreases-serving g l = length (list_of (g.A.Store.meaning l.line).state 0)

@@ -4,8 +4,8 @@ use Rattle.service_reports.proofs.orders_text.Goals as goal
 
 pub returns-in-Ok : goal.returns-in-Ok
 returns-in-Ok g c =
-    let m = g.A.Agenda.meaning c.args.line.now in
-    let n = g.A.Agenda.meaning c.order_of_service.new.line in
+    let m = g.A.Store.meaning c.args.line.now in
+    let n = g.A.Store.meaning c.order_of_service.new.line in
     let xs = c.args.orders.now in
     let ys = vec_items c.in-Ok.served in
     record {
@@ -16,8 +16,8 @@ returns-in-Ok g c =
 
 pub returns-in-Err : goal.returns-in-Err
 returns-in-Err g c =
-    let m = g.A.Agenda.meaning c.args.line.now in
-    let n = g.A.Agenda.meaning c.order_of_service.new.line in
+    let m = g.A.Store.meaning c.args.line.now in
+    let n = g.A.Store.meaning c.order_of_service.new.line in
     let xs = c.args.orders.now in
     record {
       sound = c.order_of_service.ensures.sound;

@@ -2,4 +2,4 @@
 use Rattle.heap_tests.proofs.agreement.agenda_answers.Given as goal
 
 abbrev pub invariant-loop-i : goal.invariant-loop-i
-invariant-loop-i g l = g.A.Agenda.sound l.store
+invariant-loop-i g l = g.A.Store.sound l.store

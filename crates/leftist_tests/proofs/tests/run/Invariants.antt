@@ -2,4 +2,4 @@
 use Rattle.leftist_tests.proofs.tests.run.Given as goal
 
 abbrev pub invariant-loop-call : goal.invariant-loop-call
-invariant-loop-call g l = g.S.BareHeap.sound l.store
+invariant-loop-call g l = g.S.Store.sound l.store

@@ -7,7 +7,7 @@ use Rattle.network.proofs.Ranges.{checked_as, accepted_as, ranged, close_numbers
 use Rattle.network.proofs.Draft.close.Goals as goal
 
 pub returns-in-Some : goal.returns-in-Some
-returns-in-Some g c = record { sound = c.requires.sound; forms = form_refused_at_once c.args.self.now.net.now (g.E.Agenda.meaning c.args.events.now) (g.O.Agenda.meaning c.args.orders.now) c.requires.fit (a-closing c.args.station c.args.at c.args.into) _ (checked_as (a-closing c.args.station c.args.at c.args.into) c.args.self.now.net.now (g.E.Agenda.meaning c.args.events.now) (g.O.Agenda.meaning c.args.orders.now) _ _ (Some c.in-Some.why) c.issued.ensures.answer c.refusal.ensures.answer c.in-Some.is); refused = (refl, refl, refl) }
+returns-in-Some g c = record { sound = c.requires.sound; forms = form_refused_at_once c.args.self.now.net.now (g.E.Store.meaning c.args.events.now) (g.O.Store.meaning c.args.orders.now) c.requires.fit (a-closing c.args.station c.args.at c.args.into) _ (checked_as (a-closing c.args.station c.args.at c.args.into) c.args.self.now.net.now (g.E.Store.meaning c.args.events.now) (g.O.Store.meaning c.args.orders.now) _ _ (Some c.in-Some.why) c.issued.ensures.answer c.refusal.ensures.answer c.in-Some.is); refused = (refl, refl, refl) }
 
 pub returns-in-Ok : goal.returns-in-Ok
 returns-in-Ok g c =
@@ -15,7 +15,7 @@ returns-in-Ok g c =
     let numbers = close_numbers c.args.station c.args.at c.args.into (ranged (a-closing c.args.station c.args.at c.args.into) c.args.self.now.net.now c.issued.result (accepted_as (a-closing c.args.station c.args.at c.args.into) c.args.self.now.net.now c.issued.result c.refusal.result c.refusal.ensures.answer c.in-None.is)) in
     record {
       sound = (p.sound, c.requires.sound.1);
-      forms = form_accepted announced no_write announced_only c.args.self.now.net.now (g.E.Agenda.meaning c.args.events.now) (g.O.Agenda.meaning c.args.orders.now) c.requires.fit (a-closing c.args.station c.args.at c.args.into) (checked_as (a-closing c.args.station c.args.at c.args.into) c.args.self.now.net.now (g.E.Agenda.meaning c.args.events.now) (g.O.Agenda.meaning c.args.orders.now) _ _ None c.issued.ensures.answer c.refusal.ensures.answer c.in-None.is) c.args.at (Close c.args.station c.args.into) (λ v. refl) (omega (arith, numbers.0), omega (arith, numbers.1)) _ _ p.effect c.requires.fit.network _ refl;
+      forms = form_accepted announced no_write announced_only c.args.self.now.net.now (g.E.Store.meaning c.args.events.now) (g.O.Store.meaning c.args.orders.now) c.requires.fit (a-closing c.args.station c.args.at c.args.into) (checked_as (a-closing c.args.station c.args.at c.args.into) c.args.self.now.net.now (g.E.Store.meaning c.args.events.now) (g.O.Store.meaning c.args.orders.now) _ _ None c.issued.ensures.answer c.refusal.ensures.answer c.in-None.is) c.args.at (Close c.args.station c.args.into) (λ v. refl) (omega (arith, numbers.0), omega (arith, numbers.1)) _ _ p.effect c.requires.fit.network _ refl;
       refused = tt;
     }
 
@@ -25,6 +25,6 @@ returns-in-Err g c =
     let numbers = close_numbers c.args.station c.args.at c.args.into (ranged (a-closing c.args.station c.args.at c.args.into) c.args.self.now.net.now c.issued.result (accepted_as (a-closing c.args.station c.args.at c.args.into) c.args.self.now.net.now c.issued.result c.refusal.result c.refusal.ensures.answer c.in-None.is)) in
     record {
       sound = (p.sound, c.requires.sound.1);
-      forms = form_put_refused announced no_write announced_only c.args.self.now.net.now (g.E.Agenda.meaning c.args.events.now) (g.O.Agenda.meaning c.args.orders.now) c.requires.fit (a-closing c.args.station c.args.at c.args.into) (checked_as (a-closing c.args.station c.args.at c.args.into) c.args.self.now.net.now (g.E.Agenda.meaning c.args.events.now) (g.O.Agenda.meaning c.args.orders.now) _ _ None c.issued.ensures.answer c.refusal.ensures.answer c.in-None.is) c.args.at (Close c.args.station c.args.into) (λ v. refl) (omega (arith, numbers.0), omega (arith, numbers.1)) _ _ p.effect;
+      forms = form_put_refused announced no_write announced_only c.args.self.now.net.now (g.E.Store.meaning c.args.events.now) (g.O.Store.meaning c.args.orders.now) c.requires.fit (a-closing c.args.station c.args.at c.args.into) (checked_as (a-closing c.args.station c.args.at c.args.into) c.args.self.now.net.now (g.E.Store.meaning c.args.events.now) (g.O.Store.meaning c.args.orders.now) _ _ None c.issued.ensures.answer c.refusal.ensures.answer c.in-None.is) c.args.at (Close c.args.station c.args.into) (λ v. refl) (omega (arith, numbers.0), omega (arith, numbers.1)) _ _ p.effect;
       refused = (refl, p.refused, refl);
     }

@@ -7,7 +7,7 @@ use Rattle.network.proofs.Draft.end.Goals as goal
 pub returns-in-Some : goal.returns-in-Some
 returns-in-Some g c = record {
   ends = (
-    form_refused_at_once c.args.self.net.now (g.E.Agenda.meaning c.args.events.now) (g.O.Agenda.meaning c.args.orders.now) c.requires.fit (End c.args.at) _ (checked_as (End c.args.at) c.args.self.net.now (g.E.Agenda.meaning c.args.events.now) (g.O.Agenda.meaning c.args.orders.now) _ _ (Some c.in-Some.why) c.issued.ensures.answer c.refusal.ensures.answer c.in-Some.is),
+    form_refused_at_once c.args.self.net.now (g.E.Store.meaning c.args.events.now) (g.O.Store.meaning c.args.orders.now) c.requires.fit (End c.args.at) _ (checked_as (End c.args.at) c.args.self.net.now (g.E.Store.meaning c.args.events.now) (g.O.Store.meaning c.args.orders.now) _ _ (Some c.in-Some.why) c.issued.ensures.answer c.refusal.ensures.answer c.in-Some.is),
     refl,
   );
 }
@@ -18,7 +18,7 @@ returns-in-None g c =
     record {
       ends = record {
         fit = record { network = h.network; instant = h.instant; end = end_number c.args.at (ranged (End c.args.at) c.args.self.net.now c.issued.result (accepted_as (End c.args.at) c.args.self.net.now c.issued.result c.refusal.result c.refusal.ensures.answer c.in-None.is)); events = h.events; lines = h.lines };
-        whole = end_formed c.args.self.net.now (g.E.Agenda.meaning c.args.events.now) (g.O.Agenda.meaning c.args.orders.now) h c.args.at (checked_as (End c.args.at) c.args.self.net.now (g.E.Agenda.meaning c.args.events.now) (g.O.Agenda.meaning c.args.orders.now) _ _ None c.issued.ensures.answer c.refusal.ensures.answer c.in-None.is);
+        whole = end_formed c.args.self.net.now (g.E.Store.meaning c.args.events.now) (g.O.Store.meaning c.args.orders.now) h c.args.at (checked_as (End c.args.at) c.args.self.net.now (g.E.Store.meaning c.args.events.now) (g.O.Store.meaning c.args.orders.now) _ _ None c.issued.ensures.answer c.refusal.ensures.answer c.in-None.is);
         not_over = refl;
       };
     }

@@ -7,7 +7,7 @@ use Rattle.network.proofs.Ranges.{checked_as, accepted_as, ranged, withdraw_numb
 use Rattle.network.proofs.Draft.withdraw.Goals as goal
 
 pub returns-in-Some : goal.returns-in-Some
-returns-in-Some g c = record { sound = c.requires.sound; forms = form_refused_at_once c.args.self.now.net.now (g.E.Agenda.meaning c.args.events.now) (g.O.Agenda.meaning c.args.orders.now) c.requires.fit (a-withdrawal c.args.order c.args.at) _ (checked_as (a-withdrawal c.args.order c.args.at) c.args.self.now.net.now (g.E.Agenda.meaning c.args.events.now) (g.O.Agenda.meaning c.args.orders.now) _ _ (Some c.in-Some.why) c.issued.ensures.answer c.refusal.ensures.answer c.in-Some.is); refused = (refl, refl, refl) }
+returns-in-Some g c = record { sound = c.requires.sound; forms = form_refused_at_once c.args.self.now.net.now (g.E.Store.meaning c.args.events.now) (g.O.Store.meaning c.args.orders.now) c.requires.fit (a-withdrawal c.args.order c.args.at) _ (checked_as (a-withdrawal c.args.order c.args.at) c.args.self.now.net.now (g.E.Store.meaning c.args.events.now) (g.O.Store.meaning c.args.orders.now) _ _ (Some c.in-Some.why) c.issued.ensures.answer c.refusal.ensures.answer c.in-Some.is); refused = (refl, refl, refl) }
 
 pub returns-in-Ok : goal.returns-in-Ok
 returns-in-Ok g c =
@@ -15,7 +15,7 @@ returns-in-Ok g c =
     let numbers = withdraw_number c.args.order c.args.at (ranged (a-withdrawal c.args.order c.args.at) c.args.self.now.net.now c.issued.result (accepted_as (a-withdrawal c.args.order c.args.at) c.args.self.now.net.now c.issued.result c.refusal.result c.refusal.ensures.answer c.in-None.is)) in
     record {
       sound = (p.sound, c.requires.sound.1);
-      forms = form_accepted announced no_write announced_only c.args.self.now.net.now (g.E.Agenda.meaning c.args.events.now) (g.O.Agenda.meaning c.args.orders.now) c.requires.fit (a-withdrawal c.args.order c.args.at) (checked_as (a-withdrawal c.args.order c.args.at) c.args.self.now.net.now (g.E.Agenda.meaning c.args.events.now) (g.O.Agenda.meaning c.args.orders.now) _ _ None c.issued.ensures.answer c.refusal.ensures.answer c.in-None.is) c.args.at (Withdraw c.args.order) (λ v. refl) (omega (arith, numbers)) _ _ p.effect c.requires.fit.network _ refl;
+      forms = form_accepted announced no_write announced_only c.args.self.now.net.now (g.E.Store.meaning c.args.events.now) (g.O.Store.meaning c.args.orders.now) c.requires.fit (a-withdrawal c.args.order c.args.at) (checked_as (a-withdrawal c.args.order c.args.at) c.args.self.now.net.now (g.E.Store.meaning c.args.events.now) (g.O.Store.meaning c.args.orders.now) _ _ None c.issued.ensures.answer c.refusal.ensures.answer c.in-None.is) c.args.at (Withdraw c.args.order) (λ v. refl) (omega (arith, numbers)) _ _ p.effect c.requires.fit.network _ refl;
       refused = tt;
     }
 
@@ -25,6 +25,6 @@ returns-in-Err g c =
     let numbers = withdraw_number c.args.order c.args.at (ranged (a-withdrawal c.args.order c.args.at) c.args.self.now.net.now c.issued.result (accepted_as (a-withdrawal c.args.order c.args.at) c.args.self.now.net.now c.issued.result c.refusal.result c.refusal.ensures.answer c.in-None.is)) in
     record {
       sound = (p.sound, c.requires.sound.1);
-      forms = form_put_refused announced no_write announced_only c.args.self.now.net.now (g.E.Agenda.meaning c.args.events.now) (g.O.Agenda.meaning c.args.orders.now) c.requires.fit (a-withdrawal c.args.order c.args.at) (checked_as (a-withdrawal c.args.order c.args.at) c.args.self.now.net.now (g.E.Agenda.meaning c.args.events.now) (g.O.Agenda.meaning c.args.orders.now) _ _ None c.issued.ensures.answer c.refusal.ensures.answer c.in-None.is) c.args.at (Withdraw c.args.order) (λ v. refl) (omega (arith, numbers)) _ _ p.effect;
+      forms = form_put_refused announced no_write announced_only c.args.self.now.net.now (g.E.Store.meaning c.args.events.now) (g.O.Store.meaning c.args.orders.now) c.requires.fit (a-withdrawal c.args.order c.args.at) (checked_as (a-withdrawal c.args.order c.args.at) c.args.self.now.net.now (g.E.Store.meaning c.args.events.now) (g.O.Store.meaning c.args.orders.now) _ _ None c.issued.ensures.answer c.refusal.ensures.answer c.in-None.is) c.args.at (Withdraw c.args.order) (λ v. refl) (omega (arith, numbers)) _ _ p.effect;
       refused = (refl, p.refused, refl);
     }

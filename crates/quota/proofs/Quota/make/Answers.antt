@@ -5,11 +5,11 @@ use Rattle.quota.proofs.Quota.make.Goals as goal
 
 pub returns : goal.returns
 returns g c =
-    let m = g.B.Agenda.meaning c.args.below in
+    let m = g.B.Store.meaning c.args.below in
     let h = c.height.ensures.answer in
     let o = c.over-own.ensures in
     let long : length c.args.limits ≡ 32 = search rules in
-    let over : Over g.B.Item.Ordered.le (g.B.Agenda.sound c.args.below) m c.over-own.result.limits c.over-own.result.height = record {
+    let over : Over g.B.Item.Ordered.le (g.B.Store.sound c.args.below) m c.over-own.result.limits c.over-own.result.height = record {
       below = c.requires.sound;
       formed = c.requires.formed;
       own = ap length o.limits ∙ long;

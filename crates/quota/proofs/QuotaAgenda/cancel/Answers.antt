@@ -5,7 +5,7 @@ use Rattle.quota.proofs.QuotaAgenda.cancel.Goals as goal
 pub returns : goal.returns
 returns g c =
     let s = c.args.self.now in
-    let m = g.B.Agenda.meaning s.below in
+    let m = g.B.Store.meaning s.below in
     let e = c.cancel.ensures in
     let over = over_next m _ _ c.requires _ e.sound e.effect.formed e.effect.fixed in
     record {

@@ -17,7 +17,7 @@ returns-then-reached g c =
 pub returns-else-reached : goal.returns-else-reached
 returns-else-reached g c =
     let s = c.args.self.now in
-    let m = g.B.Agenda.meaning s.below in
+    let m = g.B.Store.meaning s.below in
     let e = c.put.ensures in
     let over = over_next m _ _ c.requires _ e.sound e.effect.formed e.effect.fixed in
     let room = put_answer_open m _ _ c.requires c.args.queue c.in-Ok.count c.reached.result c.in-Ok.ensures.answer c.reached.ensures c.if-reached.false in
@@ -30,7 +30,7 @@ returns-else-reached g c =
 pub returns-in-Err : goal.returns-in-Err
 returns-in-Err g c =
     let s = c.args.self.now in
-    let m = g.B.Agenda.meaning s.below in
+    let m = g.B.Store.meaning s.below in
     let far = not_counted (with_limits s.own.limits m) c.args.queue _ c.in-Err.ensures.answer in
     record {
       sound = c.requires;

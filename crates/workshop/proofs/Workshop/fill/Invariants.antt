@@ -6,9 +6,9 @@ use Rattle.workshop.proofs.Workshop.fill.Given as goal
 
 abbrev pub invariant-fill : goal.invariant-fill
 invariant-fill g l =
-    Call (fill l.turn l.j) l.turn (simulated l.initial.self (g.E.Agenda.meaning l.initial.events) (g.O.Agenda.meaning l.initial.orders) l.initial.places) (simulated l.self (g.E.Agenda.meaning l.events) (g.O.Agenda.meaning l.orders) l.places)
-    × (g.E.Agenda.sound l.events)
-    × (g.O.Agenda.sound l.orders)
+    Call (fill l.turn l.j) l.turn (simulated l.initial.self (g.E.Store.meaning l.initial.events) (g.O.Store.meaning l.initial.orders) l.initial.places) (simulated l.self (g.E.Store.meaning l.events) (g.O.Store.meaning l.orders) l.places)
+    × (g.E.Store.sound l.events)
+    × (g.O.Store.sound l.orders)
     × (l.turn ≤ 8)
     × (l.initial.self.used + 8 ≤ length l.places)
 

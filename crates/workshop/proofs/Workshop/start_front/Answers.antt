@@ -8,7 +8,7 @@ pub start-requires : goal.start-requires
 start-requires g c =
     let p = c.in-Ok.ensures in
     record {
-      order = front_order _ _ _ _ _ _ c.requires.declared c.requires.fit c.in-Some.entry (subst (λ o. Takes line_le (g.O.Agenda.meaning c.args.orders.now) c.args.k (Ok o) (g.O.Agenda.meaning c.take.new.self)) c.in-Some.is p.effect);
+      order = front_order _ _ _ _ _ _ c.requires.declared c.requires.fit c.in-Some.entry (subst (λ o. Takes line_le (g.O.Store.meaning c.args.orders.now) c.args.k (Ok o) (g.O.Store.meaning c.take.new.self)) c.in-Some.is p.effect);
       declared = c.requires.declared;
       place = c.requires.place;
       bench = c.requires.bench;
@@ -25,7 +25,7 @@ returns-in-Some g c =
       call = record {
         fit = s.call.fit;
         few = s.call.few;
-        outcome = front_starts _ _ _ _ _ _ c.requires.declared c.requires.fit c.in-Some.entry _ (subst (λ o. Takes line_le (g.O.Agenda.meaning c.args.orders.now) c.args.k (Ok o) (g.O.Agenda.meaning c.take.new.self)) c.in-Some.is p.effect) s.call.outcome;
+        outcome = front_starts _ _ _ _ _ _ c.requires.declared c.requires.fit c.in-Some.entry _ (subst (λ o. Takes line_le (g.O.Store.meaning c.args.orders.now) c.args.k (Ok o) (g.O.Store.meaning c.take.new.self)) c.in-Some.is p.effect) s.call.outcome;
       };
     }
 
@@ -37,6 +37,6 @@ returns-in-None g c =
       call = record {
         fit = front_fit _ _ _ _ _ _ c.requires.declared c.requires.fit _ p.effect;
         few = omega arith;
-        outcome = front_none _ _ _ _ _ _ c.requires.declared c.requires.fit (subst (λ o. Takes line_le (g.O.Agenda.meaning c.args.orders.now) c.args.k (Ok o) (g.O.Agenda.meaning c.take.new.self)) c.in-None.is p.effect);
+        outcome = front_none _ _ _ _ _ _ c.requires.declared c.requires.fit (subst (λ o. Takes line_le (g.O.Store.meaning c.args.orders.now) c.args.k (Ok o) (g.O.Store.meaning c.take.new.self)) c.in-None.is p.effect);
       };
     }

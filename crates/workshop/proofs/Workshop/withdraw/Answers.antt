@@ -16,7 +16,7 @@ returns-in-FromLine g c =
     let e = waited_left c.args.i c.args.kind _ _ _ c.requires.kind q.answer q.control c.in-FromLine.stamp c.in-FromLine.is in
     record {
       sound = (c.requires.sound.0, p.sound);
-      call = withdraw_waiting c.args.i _ _ _ _ _ _ c.requires.fit (omega (arith, c.requires.places)) c.in-FromLine.stamp _ _ (waited c.args.i c.args.kind _ _ _ c.requires.kind q.answer q.control c.in-FromLine.stamp c.in-FromLine.is) p.effect (unchanged_over g.O.Agenda.meaning _ _ _ p.refused) (c.note.ensures.control ∙ ap one_more e) (c.note.ensures.places ∙ ap (λ (x : Control). noted (Withdrawn c.args.i) x c.args.places.now) e);
+      call = withdraw_waiting c.args.i _ _ _ _ _ _ c.requires.fit (omega (arith, c.requires.places)) c.in-FromLine.stamp _ _ (waited c.args.i c.args.kind _ _ _ c.requires.kind q.answer q.control c.in-FromLine.stamp c.in-FromLine.is) p.effect (unchanged_over g.O.Store.meaning _ _ _ p.refused) (c.note.ensures.control ∙ ap one_more e) (c.note.ensures.places ∙ ap (λ (x : Control). noted (Withdrawn c.args.i) x c.args.places.now) e);
     }
 
 pub returns-in-Missed : goal.returns-in-Missed
@@ -64,6 +64,6 @@ returns-in-FromBench g c =
       call = record {
         fit = s.call.fit;
         few = omega (arith, s.call.few, interrupted_used c.args.i c.in-FromBench.station _ _ de);
-        outcome = withdraw_serving c.args.i _ _ _ _ _ _ c.requires.fit (omega (arith, c.requires.places)) c.in-FromBench.station c.in-FromBench.stamp _ _ p.effect de pe _ (unchanged_over g.E.Agenda.meaning _ _ _ p.refused) (served c.args.i c.args.kind _ _ _ c.requires.kind q.answer q.control c.in-FromBench.station c.in-FromBench.stamp c.in-FromBench.is) s.call.outcome;
+        outcome = withdraw_serving c.args.i _ _ _ _ _ _ c.requires.fit (omega (arith, c.requires.places)) c.in-FromBench.station c.in-FromBench.stamp _ _ p.effect de pe _ (unchanged_over g.E.Store.meaning _ _ _ p.refused) (served c.args.i c.args.kind _ _ _ c.requires.kind q.answer q.control c.in-FromBench.station c.in-FromBench.stamp c.in-FromBench.is) s.call.outcome;
       };
     }

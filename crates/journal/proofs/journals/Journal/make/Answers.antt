@@ -5,10 +5,10 @@ use Rattle.journal.proofs.journals.Journal.make.Goals as goal
 
 pub returns : goal.returns
 returns g c =
-    let m = g.B.Agenda.meaning c.args.below in
+    let m = g.B.Store.meaning c.args.below in
     let h = c.height.ensures.answer in
     let o = c.over-own.ensures in
-    let over : Over g.B.Item.Ordered.le (g.B.Agenda.sound c.args.below) m c.over-own.result = record {
+    let over : Over g.B.Item.Ordered.le (g.B.Store.sound c.args.below) m c.over-own.result = record {
       below = c.requires.sound;
       formed = c.requires.formed;
       kept = o.kept;

@@ -6,7 +6,7 @@ use Rattle.journal.proofs.journals.JournalAgenda.put.Goals as goal
 pub returns-in-Ok : goal.returns-in-Ok
 returns-in-Ok g c =
     let s = c.args.self.now in
-    let m = g.B.Agenda.meaning s.below in
+    let m = g.B.Store.meaning s.below in
     let e = c.in-Ok.ensures in
     let n = c.note.ensures in
     let over = over_next m s.own c.requires _ _ (_ ∷ []) e.sound e.effect.formed e.effect.fixed n.kept n.writes.places in
@@ -15,7 +15,7 @@ returns-in-Ok g c =
 pub returns-in-Err : goal.returns-in-Err
 returns-in-Err g c =
     let s = c.args.self.now in
-    let m = g.B.Agenda.meaning s.below in
+    let m = g.B.Store.meaning s.below in
     let e = c.in-Err.ensures in
     let over = over_next m s.own c.requires _ s.own [] e.sound e.effect.formed e.effect.fixed c.requires.kept refl in
     record { sound = over; effect = puts_raised m _ _ over c.args.queue c.args.element _ e.effect; refused = ap (λ b. record { below = b; own = s.own }) e.refused; writes = writes_none s.own c.requires.kept }

@@ -6,7 +6,7 @@ use Rattle.lazy.proofs.layer.Lazy.make.Goals as goal
 
 pub returns : goal.returns
 returns g c =
-    let m = g.B.BareHeap.meaning c.args.below in
+    let m = g.B.Store.meaning c.args.below in
     let p = c.requires in
     let o = c.over-own.ensures in
     let h = o.height ∙ ap (λ k. k + 1) c.height.ensures.answer in

@@ -5,9 +5,9 @@ use Rattle.lazy.proofs.layer.Lazy.purge.Given as goal
 
 abbrev pub invariant-purge : goal.invariant-purge
 invariant-purge g l =
-    (g.B.BareHeap.sound l.self.below)
-    × Purging g.B.Item.Ordered.le l.initial.self.own.queue_of (g.B.BareHeap.meaning l.initial.self.below) l.queue (g.B.BareHeap.meaning l.self.below)
+    (g.B.Store.sound l.self.below)
+    × Purging g.B.Item.Ordered.le l.initial.self.own.queue_of (g.B.Store.meaning l.initial.self.below) l.queue (g.B.Store.meaning l.self.below)
     × (l.self.own ≡ l.initial.self.own)
 
 abbrev pub decreases-purge : goal.decreases-purge
-decreases-purge g l = count_of (g.B.BareHeap.meaning l.self.below).state l.queue
+decreases-purge g l = count_of (g.B.Store.meaning l.self.below).state l.queue

@@ -31,7 +31,7 @@ leave-requires g c =
 pub returns : goal.returns
 returns g c =
     let s = c.args.self.now in
-    let m = g.B.BareHeap.meaning s.below in
+    let m = g.B.Store.meaning s.below in
     let law = strict _ g.met.B.Item.Ordered.laws in
     let q = c.mark-mark.result - 1 in
     let here : get_or s.own.queue_of c.args.stamp 0 ≡ q + 1 = omega (arith, c.mark-mark.ensures, c.if-mark-eq0.false) in

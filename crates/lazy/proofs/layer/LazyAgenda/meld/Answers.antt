@@ -17,7 +17,7 @@ join-requires g c =
 pub returns-in-Ok : goal.returns-in-Ok
 returns-in-Ok g c =
     let s = c.args.self.now in
-    let m = g.B.BareHeap.meaning s.below in
+    let m = g.B.Store.meaning s.below in
     let law = strict _ g.met.B.Item.Ordered.laws in
     let e = c.in-Ok.ensures in
     let o = c.join.ensures in
@@ -30,7 +30,7 @@ returns-in-Ok g c =
 pub returns-in-Err : goal.returns-in-Err
 returns-in-Err g c =
     let s = c.args.self.now in
-    let m = g.B.BareHeap.meaning s.below in
+    let m = g.B.Store.meaning s.below in
     let law = strict _ g.met.B.Item.Ordered.laws in
     let e = c.in-Err.ensures in
     record {

@@ -24,7 +24,7 @@ leave-requires g c =
 pub returns-in-Some : goal.returns-in-Some
 returns-in-Some g c =
     let s = c.args.self.now in
-    let m = g.B.BareHeap.meaning s.below in
+    let m = g.B.Store.meaning s.below in
     let law = strict _ g.met.B.Item.Ordered.laws in
     let e = c.in-Ok.ensures in
     let p = c.purge.ensures in
@@ -42,7 +42,7 @@ returns-in-Some g c =
 pub returns-in-None : goal.returns-in-None
 returns-in-None g c =
     let s = c.args.self.now in
-    let m = g.B.BareHeap.meaning s.below in
+    let m = g.B.Store.meaning s.below in
     let law = strict _ g.met.B.Item.Ordered.laws in
     let e = c.in-Ok.ensures in
     let same = nothing_taken _ _ _ m c.requires _ c.args.queue _ c.in-None.is e.effect in
@@ -55,7 +55,7 @@ returns-in-None g c =
 pub returns-in-Err : goal.returns-in-Err
 returns-in-Err g c =
     let s = c.args.self.now in
-    let m = g.B.BareHeap.meaning s.below in
+    let m = g.B.Store.meaning s.below in
     let law = strict _ g.met.B.Item.Ordered.laws in
     let e = c.in-Err.ensures in
     record {

@@ -14,11 +14,8 @@ fn add(totals: &mut Totals, state: OrderState)
 {
     match state {
         OrderState::NotYet => totals.pending += 1,
-        OrderState::Waiting { stamp: _ } => totals.waiting += 1,
-        OrderState::InService {
-            station: _,
-            stamp: _,
-        } => totals.serving += 1,
+        OrderState::Waiting { .. } => totals.waiting += 1,
+        OrderState::InService { .. } => totals.serving += 1,
         OrderState::Done => totals.done += 1,
         OrderState::Away => totals.away += 1,
         OrderState::Withdrawn => totals.withdrawn += 1,
@@ -33,15 +30,7 @@ pub fn totals(network: &Network) -> Totals
     let orders: &[Order] = &network.orders;
     let count = usize::from(network.declared.orders).min(orders.len());
     let declared = &orders[..count];
-    let mut totals = Totals {
-        pending: 0,
-        waiting: 0,
-        serving: 0,
-        done: 0,
-        away: 0,
-        withdrawn: 0,
-        stranded: 0,
-    };
+    let mut totals = Totals::default();
     for order in declared {
         add(&mut totals, order.state);
     }

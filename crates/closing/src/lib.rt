@@ -5,7 +5,7 @@ ghost use Rattle.std.specs.Prelude.{◌≡◌, ◌<◌};
 ghost use Rattle.machine.specs.Closing.{one_in, totals as totals-in};
 ghost use Rattle.closing.specs.Counting.{whole, plus};
 
-use machine::{Network, Order, OrderState, Totals};
+use machine::{Network, OrderState, Totals};
 
 // One order more in that state.
 fn add(totals: &mut Totals, state: OrderState)
@@ -27,11 +27,9 @@ fn add(totals: &mut Totals, state: OrderState)
 pub fn totals(network: &Network) -> Totals
     ensures { result ≡ totals-in network.now }
 {
-    let orders: &[Order] = &network.orders;
-    let count = usize::from(network.declared.orders).min(orders.len());
-    let declared = &orders[..count];
+    let declared = usize::from(network.declared.orders);
     let mut totals = Totals::default();
-    for order in declared {
+    for order in network.orders.iter().take(declared) {
         add(&mut totals, order.state);
     }
     totals

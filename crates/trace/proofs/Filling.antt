@@ -1,9 +1,8 @@
 -- A template is filled from its first byte to its last.
-use Rattle.std.proofs.Common.{◌≡◌, ℕ, ◌+◌, ◌-◌, ◌*◌, ◌^◌, ◌<◌, ◌≤◌, List, [], ◌∷◌, ◌++◌, map, length, get_or, drop, decimal, sym, refl, ap, ◌∙◌, subst, append_assoc, append-nil, arith, eq-eqb, ne_eqb}
-use Rattle.std.proofs.lemmas.List.{drop_more, drop_all}
+use Rattle.std.proofs.Common.{◌≡◌, ℕ, ◌+◌, ◌-◌, ◌*◌, ◌^◌, ◌<◌, ◌≤◌, List, [], ◌∷◌, ◌++◌, map, length, get_or, drop, decimal, sym, ap, ◌∙◌, append_assoc, arith, eq-eqb, ne_eqb}
+use Rattle.std.proofs.lemmas.List.{drop_more}
 use Rattle.std.proofs.lemmas.Fmt.{length-decimal-le}
-use Rattle.std.proofs.lemmas.Bool.{cond-true}
-use Rattle.scanner.specs.Templates.{gap, fill}
+use Rattle.scanner.specs.Templates.{fill}
 use Rattle.scanner.proofs.Filling.{fill_byte, fill_next}
 use Rattle.trace.specs.Puts.{Put}
 use Rattle.trace.proofs.Putting.{both}
@@ -14,14 +13,6 @@ pub record Sofar (t ns before : List ℕ) (i : ℕ) (left out : List ℕ) (at : 
   pub put : Put before 0 text out at
   pub rest : text ++ fill (drop i t) (map decimal left) ≡ fill t (map decimal ns)
   pub room : at + (length t - i) + 9 * length left ≤ length t + 9 * length ns
-
-pub start : (t ns before : List ℕ) → Sofar t ns before 0 ns before 0
-start t ns before = record {
-  text = [];
-  put = record { place = refl; front = refl; back = refl };
-  rest = refl;
-  room = omega arith;
-}
 
 module _ (t ns before : List ℕ) (i : ℕ) (left out : List ℕ) (at : ℕ) (s : Sofar t ns before i left out at) where
   module _ (here : i < length t) (after : List ℕ) (next : ℕ) where
@@ -51,19 +42,3 @@ module _ (t ns before : List ℕ) (i : ℕ) (left out : List ℕ) (at : ℕ) (s 
         here_filled =
             (λ j. fill (drop_more t i 0 here j) (map decimal (left-is j)))
             ∙ fill_next (get_or t i 0) (drop (i + 1) t) (eq-eqb _ _ is-gap) (decimal n) (map decimal behind)
-
-  -- no more than a byte for each of the template, and nine for each number
-  pub within : at ≤ length t + 9 * length ns
-  within = omega (arith, s.room)
-
-  -- the template is at its end
-  pub filled : length t ≤ i → Put before 0 (fill t (map decimal ns)) out at
-  filled done = subst (λ l. Put before 0 l out at) (sym (append-nil s.text) ∙ ap (λ l. s.text ++ fill l (map decimal left)) (sym (drop_all i t done)) ∙ s.rest) s.put
-
-  -- a gap with no number left ends the line
-  pub numbers_used : i < length t → get_or t i 0 ≡ 35 → left ≡ [] → Put before 0 (fill t (map decimal ns)) out at
-  numbers_used here is-gap none =
-      let no_number : fill (drop i t) (map decimal left) ≡ [] =
-      (λ j. fill (drop_more t i 0 here j) (map decimal (none j)))
-      ∙ cond-true (gap (get_or t i 0)) [] (get_or t i 0 ∷ fill (drop (i + 1) t) []) (eq-eqb _ _ is-gap) in
-      subst (λ l. Put before 0 l out at) (sym (append-nil s.text) ∙ ap (λ l. s.text ++ l) (sym no_number) ∙ s.rest) s.put

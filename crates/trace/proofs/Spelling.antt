@@ -1,5 +1,5 @@
 -- Each line of a trace is what its template writes.
-use Rattle.std.proofs.Common.{◌≡◌, ℕ, ◌+◌, ◌*◌, ◌≤◌, ◌⊎◌, inl, inr, List, [], ◌∷◌, ◌++◌, map, length, Some, None, Ok, codes, decimal, Option, refl, sym, ap, ◌∙◌, subst, append_assoc, arith, take-append-drop}
+use Rattle.std.proofs.Common.{◌≡◌, ℕ, ◌+◌, ◌*◌, ◌≤◌, ◌⊎◌, inl, inr, List, [], ◌∷◌, ◌++◌, map, length, Some, None, codes, decimal, Option, refl, sym, ap, ◌∙◌, append_assoc, arith, take-append-drop}
 use Rattle.scanner.specs.Templates.{fill}
 use Rattle.stores.specs.Refusals.{number_of, height_of}
 use Rattle.machine.specs.declared.records.RecordKind.{RecordKind}
@@ -12,8 +12,7 @@ use Rattle.machine.specs.declared.records.Totals.{Totals}
 use Rattle.machine.specs.Closing.{inside}
 use Rattle.machine.specs.Lent.{line_bytes}
 use Rattle.machine.specs.Text.{record_line, end_line, fault_line, refused_line}
-use Rattle.trace.specs.declared.Line.{Line}
-use Rattle.trace.specs.Lines.{line_text, Written, Writes}
+use Rattle.trace.specs.Lines.{Written}
 use Rattle.trace.specs.Puts.{Put}
 use Rattle.trace.specs.Records.{record_template, fault_template}
 
@@ -125,6 +124,3 @@ module _ (before after : List ℕ) (n : ℕ) where
 
   pub refused_written : (m k l : ℕ) (o p : Option ℕ) → k ≡ m → p ≡ o → n ≤ length (refused_template p) + 9 * length (refused_numbers k l p) → Filled (refused_template p) (refused_numbers k l p) → Written (refused_line m l o) before after n
   refused_written m k l o p e f = is_written (refused_template p) (refused_numbers k l p) (refused_line m l o) (refused_filled k l p ∙ (λ j. refused_line (e j) l (f j))) (refused_room k l p)
-
-  pub line_written : (l m : Line) → l ≡ m → line_bytes ≤ length before → Written (line_text m) before after n → Writes (line_text l) before after (Ok n)
-  line_written l m e lent w = (lent, subst (λ x. Written (line_text x) before after n) (sym e) w)

@@ -26,16 +26,16 @@ pub enum Line {
 impl From<Record> for Line {
     ghost from_gives = { λ r l. l ≡ record-line r };
 
-    fn from(record: Record) -> Line {
-        Line::Record(record)
+    fn from(told: Record) -> Line {
+        Line::Record(told)
     }
 }
 
 impl From<Fault> for Line {
     ghost from_gives = { λ f l. l ≡ fault-line f };
 
-    fn from(fault: Fault) -> Line {
-        Line::Fault(fault)
+    fn from(told: Fault) -> Line {
+        Line::Fault(told)
     }
 }
 

@@ -1,4 +1,4 @@
-use Rattle.std.proofs.Common.{length, arith}
+use Rattle.std.proofs.Common.{arith}
 use Rattle.trace.proofs.Putting.{only_digit, last_digit, few_before_last}
 use Rattle.trace.proofs.templates.Writer.+put_number.Goals as goal
 use Rattle.trace.proofs.templates.Writer.+put_number.Goals.{then-number-ge10, else-number-ge10}

@@ -8,4 +8,3 @@ pub mod Melding
 pub mod FreshStore
 pub mod Counting
 pub mod Meldability
-pub mod Lending

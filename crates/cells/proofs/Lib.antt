@@ -1,4 +1,5 @@
 pub mod Trees
+pub mod Binary
 pub mod IdleCells
 pub mod Soundness
 pub mod Changing

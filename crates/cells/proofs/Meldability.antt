@@ -1,5 +1,6 @@
 -- Two heaps that can be melded: in either order, where one is empty, and which root comes first.
-use Rattle.std.proofs.Common.{◌≡◌, ℕ, true, false, List, get_or, Some, None, Option, sym, refl, ap, ◌∙◌, subst, arith, Bool}
+use Rattle.std.specs.Option.{option_or}
+use Rattle.std.proofs.Common.{◌≡◌, ◌⊎◌, inl, inr, ℕ, true, false, List, get_or, Some, None, Option, sym, refl, ap, ◌∙◌, subst, arith, Bool}
 use Rattle.elements.specs.declared.entries.Entry.{Entry}
 use Rattle.elements.specs.Order.{Strict, precedes_by, stamp_of}
 use Rattle.stores.specs.SortedLists.{merge, tally}
@@ -44,6 +45,12 @@ module _ {T K : Type 0} {le : T → T → Bool} (F : Form le K) {ls : List K} {e
 
     pub none_right : {a b c : Option ℕ} (s t : Tree (Entry T)) → b ≡ None → a ≡ c → Meldable F ls es a b s t → Melded F ls es s t ls c
     none_right s t e f p = subst (λ o. Melded F ls es s t ls o) f (unswapped p (none_left t s e (swapped p)))
+
+    -- where one is empty, the other is all
+    pub one_empty : {a b r : Option ℕ} (s t : Tree (Entry T)) → (a ≡ None) ⊎ (b ≡ None) → r ≡ option_or a b → Meldable F ls es a b s t → Melded F ls es s t ls r
+    one_empty {a = a} {b = b} s t (inl e) is p = none_left s t e (named refl (sym (is ∙ ap (λ o. option_or o b) e)) p)
+    one_empty {a = None} {b = b} s t (inr e) is p = none_left s t refl (named refl (sym is) p)
+    one_empty {a = Some i} {b = b} s t (inr e) is p = none_right s t e (sym is) p
 
     -- of two roots that are not in order, the second comes first
     pub second_first : {i j : ℕ} {s t : Tree (Entry T)} → Meldable F ls es (Some i) (Some j) s t → (x y : Entry T) → x ≡ get_or es i x → y ≡ get_or es j y → precedes_by le x y ≡ false → precedes_by le y x ≡ true

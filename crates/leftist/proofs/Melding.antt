@@ -1,5 +1,6 @@
 -- The meld of two leftist heaps: what a turn of it needs and what it comes to.
-use Rattle.std.proofs.Common.{◌≡◌, ℕ, ◌+◌, ◌<◌, ◌≤◌, Bool, true, false, leb, List, ◌∷◌, length, get_or, set, IfSome, Some, None, Option, sym, refl, ap, ◌∙◌, subst, arith, length-set}
+use Rattle.std.specs.Option.{option_or}
+use Rattle.std.proofs.Common.{◌≡◌, ◌⊎◌, ℕ, ◌+◌, ◌<◌, ◌≤◌, Bool, true, false, leb, List, ◌∷◌, length, get_or, set, IfSome, Some, None, Option, sym, refl, ap, ◌∙◌, subst, arith, length-set}
 use Rattle.std.proofs.lemmas.List.{get_or-set_same, get_or-set_other}
 use Rattle.std.proofs.lemmas.Bool.Decides.{nat_tests}
 use Rattle.elements.specs.declared.entries.Entry.{Entry}
@@ -10,7 +11,7 @@ use Rattle.stores.proofs.Merging.{merge_first, merge_assoc, merge_comm, tally-me
 use Rattle.cells.specs.Trees.{Tree, leaf, node, root, size, uses, Linked}
 use Rattle.cells.specs.Forms.{Stored, StoredAt, Meldable, Melded}
 use Rattle.cells.proofs.Trees.{node_at, read_same, framed, set_framed, root_within}
-use Rattle.cells.proofs.Meldability.{swapped, named, root_entry, unswapped, none_left, none_right, second_first}
+use Rattle.cells.proofs.Meldability.{swapped, named, root_entry, unswapped, one_empty, second_first}
 use Rattle.cells.specs.Binary.{Over, listed}
 use Rattle.cells.proofs.Binary.{over_leads, leads_over}
 use Rattle.leftist.specs.Leftist.{rank, link_of, no_link, rank_at, joined, leftist}
@@ -162,9 +163,5 @@ module _ {T : Type 0} (le : T → T → Bool) (laws : Laws le) where
     turned m = unswapped (leftist le) (lawful le law) law p m
 
   -- a meld with nothing
-  module _ {ls : List Link} {es : List (Entry T)} {a b : Option ℕ} (s t : Tree (Entry T)) where
-    pub with_none : a ≡ None → Meldable (leftist le) ls es a b s t → Melded (leftist le) ls es s t ls b
-    with_none e p = none_left (leftist le) (lawful le law) law s t e p
-
-    pub into_none : {c : Option ℕ} → b ≡ None → a ≡ c → Meldable (leftist le) ls es a b s t → Melded (leftist le) ls es s t ls c
-    into_none e f p = none_right (leftist le) (lawful le law) law s t e f p
+  pub with_none : {ls : List Link} {es : List (Entry T)} {a b r : Option ℕ} (s t : Tree (Entry T)) → (a ≡ None) ⊎ (b ≡ None) → r ≡ option_or a b → Meldable (leftist le) ls es a b s t → Melded (leftist le) ls es s t ls r
+  with_none s t e is p = one_empty (leftist le) (lawful le law) law s t e is p

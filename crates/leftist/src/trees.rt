@@ -54,24 +54,19 @@ pub fn meld<T: Ordered + Copy>(
     requires { (s : Tree (Entry T)) × (t : Tree (Entry T)) × Meldable (leftist T.Ordered.le) links.old entries.now a b s t }
     ensures { (s t : Tree (Entry T)) → Meldable (leftist T.Ordered.le) links.old entries.now a b s t → Melded (leftist T.Ordered.le) links.old entries.now s t links.new result }
 {
-    match a {
-        None => b,
-        Some(i) => match b {
-            None => a,
-            Some(j) => {
-                if precedes(&entries[i as usize], &entries[j as usize]) {
-                    let right = links[i as usize].right;
-                    let rest = meld(links, entries, right, b);
-                    join(links, i, rest);
-                    a
-                } else {
-                    let right = links[j as usize].right;
-                    let rest = meld(links, entries, right, a);
-                    join(links, j, rest);
-                    b
-                }
-            }
-        },
+    let (Some(i), Some(j)) = (a, b) else {
+        return a.or(b);
+    };
+    if precedes(&entries[i as usize], &entries[j as usize]) {
+        let right = links[i as usize].right;
+        let rest = meld(links, entries, right, Some(j));
+        join(links, i, rest);
+        Some(i)
+    } else {
+        let right = links[j as usize].right;
+        let rest = meld(links, entries, right, Some(i));
+        join(links, j, rest);
+        Some(j)
     }
 }
 

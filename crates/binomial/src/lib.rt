@@ -1,9 +1,13 @@
-// A store of 32 queues, each a binomial heap in the cells of two lent slices. It is made in two calls: `fits` tests the
-// slices and numbers, and `make` takes what passed the test.
+// Binomial heaps whose nodes are cells of two lent slices, links and entries, for any element type, and the store of 32
+// queues over them.
 #![tactic(auto)]
 
-mod store;
+mod heaps;
+mod links;
+mod roots;
+mod trees;
 
-pub use binomial_core::Link;
-pub use cells::fits;
-pub use store::{Binomial, make};
+pub use heap_store::{fits, make};
+pub use heaps::Binomial;
+pub use links::Link;
+pub use trees::degrees_are_low;

@@ -49,11 +49,11 @@ module _ {T : Type 0} {le : T → T → Bool} {B : Type 0} (marks counts : List 
         | inr ge ↦ ap (λ l. tally stamp_of l s) (get_or_past kss p [] (omega (arith, queues_kept marks counts h m o)))
       ]
 
-  pub cancel_none : (s v : ℕ) → v ≡ get_or marks s 0 → v ≡ 0 → (f : Refusal) → f ≡ NotQueued h → Err f ≡ cancel_answer (lazily marks m) s
-  cancel_none s v is off f told =
+  pub cancel_none : (s : ℕ) → get_or marks s 0 ≡ 0 → (f : Refusal) → f ≡ NotQueued h → Err f ≡ cancel_answer (lazily marks m) s
+  cancel_none s off f told =
       ap Err told
       ∙ ap (λ k. Err (NotQueued k)) o.above
-      ∙ sym (ap (found (m.fixed.height + 1)) (queue_none s kss 0 (λ p. unmarked s p (λ z. omega (arith, is, off, z)))))
+      ∙ sym (ap (found (m.fixed.height + 1)) (queue_none s kss 0 (λ p. unmarked s p (λ z. omega (arith, off, z)))))
 
   module _ (q s : ℕ) (near : q < 32) (here : get_or marks s 0 ≡ q + 1) where
     abbrev new : List ℕ

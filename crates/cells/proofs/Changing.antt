@@ -1,5 +1,5 @@
 -- One queue's heap changes: what a call owes for it, and what the store then is and means.
-use Rattle.std.proofs.Common.{◌≡◌, ℕ, ◌+◌, ◌<◌, ◌≤◌, cond, ltb, List, length, get_or, set, sum_by, Option, sym, ap, ◌∙◌, subst, arith, length-set}
+use Rattle.std.proofs.Common.{◌≡◌, ℕ, ◌+◌, ◌<◌, ◌≤◌, cond, ltb, List, length, get_or, set, sum_by, Option, sym, ap, ◌∙◌, subst, arith, length-set, Bool}
 use Rattle.std.proofs.lemmas.List.{map-set, set-set}
 use Rattle.std.proofs.ByRecursion.{All-set}
 use Rattle.std.proofs.lemmas.List.Sums.{sum_by-set}
@@ -11,21 +11,22 @@ use Rattle.stores.specs.Meaning.{Meaning, Sizes}
 use Rattle.cells.specs.Trees.{Tree, leaf, root, size, uses}
 use Rattle.cells.specs.IdleCells.{first, times, Chained}
 use Rattle.cells.specs.Forms.{Form, Stored}
+use Rattle.cells.specs.Lawful.{Lawful}
 use Rattle.cells.specs.Queues.{Sound, queue_of, lists, meaning_of, with_queue, with_idle}
 use Rattle.cells.specs.declared.heads.Queue.{Queue}
 use Rattle.cells.specs.declared.heads.Heads.{Heads}
-use Rattle.cells.proofs.Soundness.{Lawful, all_framed, leaf_stored, lists_are, within}
+use Rattle.cells.proofs.Soundness.{all_framed, leaf_stored, lists_are, within}
 
 -- a call left a store that is sound and of whose meaning E holds
-pub record Done {T K : Type 0} (F : Form T K) (E : Meaning T → Type 0) (h : Heads) (ls : List K) (es : List (Entry T)) : Type 0 where
+pub record Done {T K : Type 0} {le : T → T → Bool} (F : Form le K) (E : Meaning T → Type 0) (h : Heads) (ls : List K) (es : List (Entry T)) : Type 0 where
   pub sound : Sound F h ls es
   pub effect : E (meaning_of F h ls es)
 
 -- the same of heads and links that are known by equations
-pub done_by : {T K : Type 0} (F : Form T K) (E : Meaning T → Type 0) {h h' : Heads} {ls ls' : List K} {es : List (Entry T)} → h' ≡ h → ls' ≡ ls → Done F E h ls es → Done F E h' ls' es
+pub done_by : {T K : Type 0} {le : T → T → Bool} (F : Form le K) (E : Meaning T → Type 0) {h h' : Heads} {ls ls' : List K} {es : List (Entry T)} → h' ≡ h → ls' ≡ ls → Done F E h ls es → Done F E h' ls' es
 done_by F E {h' = h'} {ls = ls} {es = es} p q d = subst (λ x. Done F E h' x es) (sym q) (subst (λ x. Done F E x ls es) (sym p) d)
 
-module _ {T K : Type 0} (F : Form T K) (lawful : Lawful F) {h : Heads} {ls : List K} {es : List (Entry T)} (s : Sound F h ls es) (q : ℕ) (near : q < 32) where
+module _ {T K : Type 0} {le : T → T → Bool} (F : Form le K) (lawful : Lawful F) {h : Heads} {ls : List K} {es : List (Entry T)} (s : Sound F h ls es) (q : ℕ) (near : q < 32) where
   -- the heap of queue q becomes u, the idle cells idle', the next stamp n'
   pub record Change (ls' : List K) (es' : List (Entry T)) (idle' : List ℕ) (n' : ℕ) (u : Tree (Entry T)) : Type 0 where
     pub stored : Stored F ls' es' u

@@ -1,5 +1,5 @@
 -- A fresh store, for any form of heap: 32 empty queues, every cell idle.
-use Rattle.std.proofs.Common.{◌≡◌, ℕ, zero, suc, List, [], ◌∷◌, map, length, replicate, sum_by, Option, refl, ap, ◌∙◌, arith}
+use Rattle.std.proofs.Common.{◌≡◌, ℕ, zero, suc, List, [], ◌∷◌, map, length, replicate, sum_by, Option, refl, ap, ◌∙◌, arith, Bool}
 use Rattle.std.proofs.lemmas.List.Sums.{sum_by-cons}
 use Rattle.std.specs.List.{AllByRecursion}
 use Rattle.elements.specs.declared.entries.Entry.{Entry}
@@ -9,9 +9,10 @@ use Rattle.stores.specs.Meaning.{Sizes, fresh_bare, bare_fixed}
 use Rattle.cells.specs.Trees.{Tree, leaf, size, uses}
 use Rattle.cells.specs.IdleCells.{IdleFrom}
 use Rattle.cells.specs.Forms.{Form, Stored}
+use Rattle.cells.specs.Lawful.{Lawful}
 use Rattle.cells.specs.Queues.{Sound, lists, fresh_heads}
 use Rattle.cells.specs.declared.heads.Heads.{Heads}
-use Rattle.cells.proofs.Soundness.{Lawful, leaf_stored, lists_are}
+use Rattle.cells.proofs.Soundness.{leaf_stored, lists_are}
 use Rattle.cells.proofs.Changing.{Done, done_by}
 
 all_alike : {A : Type 0} (P : A → Type 0) (a : A) (n : ℕ) → P a → AllByRecursion P (replicate n a)
@@ -26,7 +27,7 @@ sum_none : {A : Type 0} (f : A → ℕ) (x : A) → f x ≡ 0 → (n : ℕ) → 
 sum_none f x z zero = refl
 sum_none f x z (suc n) = omega (arith, sum_by-cons f x (replicate n x), z, sum_none f x z n)
 
-module _ {T K : Type 0} (F : Form T K) (lawful : Lawful F) (ls : List K) (es : List (Entry T)) (free : Option ℕ) (cells stamps : ℕ) (sizes : Sizes cells stamps) (long : length ls ≡ cells) (wide : length es ≡ cells) (idle : IdleFrom F.none F.idle ls free 0) where
+module _ {T K : Type 0} {le : T → T → Bool} (F : Form le K) (lawful : Lawful F) (ls : List K) (es : List (Entry T)) (free : Option ℕ) (cells stamps : ℕ) (sizes : Sizes cells stamps) (long : length ls ≡ cells) (wide : length es ≡ cells) (idle : IdleFrom F.none F.idle ls free 0) where
   fresh_sound : Sound F (fresh_heads free stamps) ls es
   fresh_sound = record {
     trees = replicate 32 leaf;

@@ -1,4 +1,5 @@
 pub mod Trees
+pub mod Binary
 pub mod IdleCells
 pub mod Soundness
 pub mod Changing
@@ -8,4 +9,3 @@ pub mod Melding
 pub mod FreshStore
 pub mod Counting
 pub mod Meldability
-pub mod Lending

@@ -1,5 +1,5 @@
 -- Meld, for any form of heap: the heaps of two queues become one, and the second queue is empty.
-use Rattle.std.proofs.Common.{◌≡◌, ℕ, ◌+◌, ◌<◌, ◌≤◌, ltb, List, [], map, length, get_or, set, None, Ok, Err, sum_by, Option, sym, refl, ap, ◌∙◌, subst, arith, length-set}
+use Rattle.std.proofs.Common.{◌≡◌, ℕ, ◌+◌, ◌<◌, ◌≤◌, ltb, List, [], map, length, get_or, set, None, Ok, Err, sum_by, Option, sym, refl, ap, ◌∙◌, subst, arith, length-set, Bool}
 use Rattle.std.proofs.lemmas.List.{get_or-set_other, map-set, set-set, set_comm}
 use Rattle.std.proofs.ByRecursion.{All-set}
 use Rattle.std.proofs.lemmas.List.Sums.{sum_by-set}
@@ -14,23 +14,24 @@ use Rattle.stores.proofs.Merging.{tally-merge}
 use Rattle.stores.proofs.Answering.{melds_refused, meld_refused_into, meld_refused_from, meld_refused_same, meld_told}
 use Rattle.cells.specs.Trees.{Tree, leaf, size, uses}
 use Rattle.cells.specs.Forms.{Form, Stored, Meldable, Melded}
+use Rattle.cells.specs.Lawful.{Lawful}
 use Rattle.cells.specs.Queues.{Sound, queue_of, no_queue, lists, state_of, meaning_of, with_queue}
 use Rattle.cells.specs.declared.heads.Queue.{Queue}
 use Rattle.cells.specs.declared.heads.Heads.{Heads}
 use Rattle.cells.proofs.IdleCells.{chain_framed}
-use Rattle.cells.proofs.Soundness.{Lawful, one_at_most, all_framed, leaf_stored, lists_are, formed, at_stored, at_root, at_list, at_count, counted}
+use Rattle.cells.proofs.Soundness.{one_at_most, all_framed, leaf_stored, lists_are, formed, at_stored, at_root, at_list, at_count, counted}
 use Rattle.cells.proofs.Changing.{Done, done_by}
 
-module _ {T K : Type 0} (F : Form T K) (lawful : Lawful F) {h : Heads} {ls : List K} {es : List (Entry T)} (s : Sound F h ls es) (a b : ℕ) where
-  pub meld_into : 32 ≤ a → Melds F.le (meaning_of F h ls es) a b (Err QueueNumber) (meaning_of F h ls es)
+module _ {T K : Type 0} {le : T → T → Bool} (F : Form le K) (lawful : Lawful F) {h : Heads} {ls : List K} {es : List (Entry T)} (s : Sound F h ls es) (a b : ℕ) where
+  pub meld_into : 32 ≤ a → Melds le (meaning_of F h ls es) a b (Err QueueNumber) (meaning_of F h ls es)
   meld_into far = melds_refused (formed F lawful s) a b QueueNumber (meld_refused_into (state_of F h ls es) a b far)
 
   module _ (near-a : a < 32) where
-    pub meld_from : 32 ≤ b → Melds F.le (meaning_of F h ls es) a b (Err QueueNumber) (meaning_of F h ls es)
+    pub meld_from : 32 ≤ b → Melds le (meaning_of F h ls es) a b (Err QueueNumber) (meaning_of F h ls es)
     meld_from far = melds_refused (formed F lawful s) a b QueueNumber (meld_refused_from (state_of F h ls es) a b near-a far)
 
     module _ (near-b : b < 32) where
-      pub meld_same : a ≡ b → Melds F.le (meaning_of F h ls es) a b (Err SameQueue) (meaning_of F h ls es)
+      pub meld_same : a ≡ b → Melds le (meaning_of F h ls es) a b (Err SameQueue) (meaning_of F h ls es)
       meld_same e = melds_refused (formed F lawful s) a b SameQueue (meld_refused_same (state_of F h ls es) a b near-a near-b e)
 
       module _ (differ : a ≡ b → ⊥) where
@@ -47,10 +48,11 @@ module _ {T K : Type 0} (F : Form T K) (lawful : Lawful F) {h : Heads} {ls : Lis
         none_counted : (k : ℕ) → tally stamp_of (F.list leaf) k ≡ 0
         none_counted k = ap (λ x. tally stamp_of x k) lawful.list_leaf
 
-        pub meldable : Meldable F ls es (get_or h.queues a no_queue).root (get_or h.queues b no_queue).root (get_or s.trees a leaf) (get_or s.trees b leaf)
-        meldable = record {
-          one = record { at = at_root F lawful s a near-a; stored = at_stored F lawful s a near-a };
-          two = record { at = at_root F lawful s b near-b; stored = at_stored F lawful s b near-b };
+        -- x and y are the roots and counts of the two
+        pub meldable : (x y : Queue) → x ≡ get_or h.queues a no_queue → y ≡ get_or h.queues b no_queue → Meldable F ls es x.root y.root (get_or s.trees a leaf) (get_or s.trees b leaf)
+        meldable x y x-is y-is = record {
+          one = record { at = ap (λ (z : Queue). z.root) x-is ∙ at_root F lawful s a near-a; stored = at_stored F lawful s a near-a };
+          two = record { at = ap (λ (z : Queue). z.root) y-is ∙ at_root F lawful s b near-b; stored = at_stored F lawful s b near-b };
           cells = λ k. omega (arith, without_both (λ x. uses x k) refl, s.cells k);
           stamps = λ k. omega (arith, without_both (λ x. tally stamp_of (F.list x) k) (none_counted k), s.stamps k, one_at_most (ltb k h.next));
           few = omega (arith, without_both size refl, s.total, s.sizes.few_cells);
@@ -87,20 +89,20 @@ module _ {T K : Type 0} (F : Form T K) (lawful : Lawful F) {h : Heads} {ls : Lis
             cells = λ k. omega (arith, s.cells k, sum_after (λ x. uses x k) refl (m.cells k));
             total = omega (arith, s.total, long, sum_after size refl m.counts);
             long = omega (arith, s.long, long);
-            stamps = λ k. omega (arith, s.stamps k, sum_after (λ x. tally stamp_of (F.list x) k) (none_counted k) (ap (λ y. tally stamp_of y k) m.lists ∙ tally-merge (precedes_by F.le) stamp_of (F.list (get_or s.trees a leaf)) (F.list (get_or s.trees b leaf)) k));
+            stamps = λ k. omega (arith, s.stamps k, sum_after (λ x. tally stamp_of (F.list x) k) (none_counted k) (ap (λ y. tally stamp_of y k) m.lists ∙ tally-merge (precedes_by le) stamp_of (F.list (get_or s.trees a leaf)) (F.list (get_or s.trees b leaf)) k));
             issued = s.issued;
             sizes = subst (λ n. Sizes n h.stamps) (sym long) s.sizes;
           }
 
-          melded_lists : lists F after ls' es ≡ set (set (lists F h ls es) a (merge (precedes_by F.le) (list_of (state_of F h ls es) a) (list_of (state_of F h ls es) b))) b []
+          melded_lists : lists F after ls' es ≡ set (set (lists F h ls es) a (merge (precedes_by le) (list_of (state_of F h ls es) a) (list_of (state_of F h ls es) b))) b []
           unfolding melded_sound
           melded_lists =
               lists_are F lawful melded_sound ∙ map-set F.list (set s.trees a m.tree) b leaf ∙ ap (set (map F.list (set s.trees a m.tree)) b) lawful.list_leaf
-              ∙ ap (λ x. set x b []) (map-set F.list s.trees a m.tree ∙ ap (λ x. set x a (F.list m.tree)) (sym (lists_are F lawful s)) ∙ ap (set (lists F h ls es) a) (m.lists ∙ ap (λ x. merge (precedes_by F.le) x (F.list (get_or s.trees b leaf))) (sym (at_list F lawful s a near-a)) ∙ ap (merge (precedes_by F.le) (list_of (state_of F h ls es) a)) (sym (at_list F lawful s b near-b))))
+              ∙ ap (λ x. set x b []) (map-set F.list s.trees a m.tree ∙ ap (λ x. set x a (F.list m.tree)) (sym (lists_are F lawful s)) ∙ ap (set (lists F h ls es) a) (m.lists ∙ ap (λ x. merge (precedes_by le) x (F.list (get_or s.trees b leaf))) (sym (at_list F lawful s a near-a)) ∙ ap (merge (precedes_by le) (list_of (state_of F h ls es) a)) (sym (at_list F lawful s b near-b))))
 
           -- n is the answer and h₂ the heads in the end
-          pub melding : (n : ℕ) → n ≡ (get_or h.queues b no_queue).count → (h₂ : Heads) → h₂ ≡ after → Done F (Melds F.le (meaning_of F h ls es) a b (Ok n)) h₂ ls' es
-          melding n n-is h₂ e = done_by F (Melds F.le (meaning_of F h ls es) a b (Ok n)) e refl (record {
+          pub melding : (n : ℕ) → n ≡ (get_or h.queues b no_queue).count → (h₂ : Heads) → h₂ ≡ after → Done F (Melds le (meaning_of F h ls es) a b (Ok n)) h₂ ls' es
+          melding n n-is h₂ e = done_by F (Melds le (meaning_of F h ls es) a b (Ok n)) e refl (record {
             sound = melded_sound;
             effect = record {
               answer = meld_told (state_of F h ls es) a b n near-a near-b differ (n-is ∙ counted F lawful s b near-b);

@@ -1,5 +1,5 @@
 -- Put, for any form of heap: the first idle cell becomes a heap of its own, which is melded with the queue's.
-use Rattle.std.proofs.Common.{◌≡◌, ℕ, ◌+◌, ◌<◌, ◌≤◌, cond, eqb, List, [], ◌∷◌, length, get_or, set, Some, None, Ok, Err, Option, sym, refl, ap, ◌∙◌, subst, arith, length-set}
+use Rattle.std.proofs.Common.{◌≡◌, ℕ, ◌+◌, ◌<◌, ◌≤◌, cond, eqb, List, [], ◌∷◌, length, get_or, set, Some, None, Ok, Err, Option, sym, refl, ap, ◌∙◌, subst, arith, length-set, Bool}
 use Rattle.std.proofs.lemmas.List.{get_or-set_same, get_or-set_other}
 use Rattle.std.proofs.lemmas.Bool.Decides.{nat_tests}
 use Rattle.elements.specs.declared.entries.Entry.{Entry}
@@ -13,23 +13,25 @@ use Rattle.stores.proofs.Answering.{unlimited, puts_refused, put_refused_queue, 
 use Rattle.cells.specs.Trees.{Tree, leaf, node, uses}
 use Rattle.cells.specs.IdleCells.{first, times, Chained}
 use Rattle.cells.specs.Forms.{Form, Meldable, Melded}
+use Rattle.cells.specs.Lawful.{Lawful}
 use Rattle.cells.specs.Queues.{Sound, no_queue, lists, state_of, meaning_of, with_queue, with_idle}
+use Rattle.cells.specs.declared.heads.Queue.{Queue}
 use Rattle.cells.specs.declared.heads.Heads.{Heads}
 use Rattle.cells.proofs.Trees.{held_framed, set_framed}
 use Rattle.cells.proofs.IdleCells.{first_idle, chain_framed}
-use Rattle.cells.proofs.Soundness.{Lawful, formed, full, not_full, at_stored, at_cells, at_size, at_stamps, at_root, at_list, at_count}
+use Rattle.cells.proofs.Soundness.{formed, full, not_full, at_stored, at_cells, at_size, at_stamps, at_root, at_list, at_count}
 use Rattle.cells.proofs.Changing.{Done, done_by, Change, changed}
 
-module _ {T K : Type 0} (F : Form T K) (lawful : Lawful F) {h : Heads} {ls : List K} {es : List (Entry T)} (s : Sound F h ls es) (q : ℕ) (x : T) where
-  pub put_queue : 32 ≤ q → Puts F.le (meaning_of F h ls es) q x (Err QueueNumber) (meaning_of F h ls es)
+module _ {T K : Type 0} {le : T → T → Bool} (F : Form le K) (lawful : Lawful F) {h : Heads} {ls : List K} {es : List (Entry T)} (s : Sound F h ls es) (q : ℕ) (x : T) where
+  pub put_queue : 32 ≤ q → Puts le (meaning_of F h ls es) q x (Err QueueNumber) (meaning_of F h ls es)
   put_queue far = puts_refused (formed F lawful s) q x QueueNumber (put_refused_queue (meaning_of F h ls es) q far)
 
   module _ (near : q < 32) where
-    pub put_cell : h.free ≡ None → Puts F.le (meaning_of F h ls es) q x (Err NoCell) (meaning_of F h ls es)
+    pub put_cell : h.free ≡ None → Puts le (meaning_of F h ls es) q x (Err NoCell) (meaning_of F h ls es)
     put_cell none = puts_refused (formed F lawful s) q x NoCell (put_refused_cell (meaning_of F h ls es) q near (unlimited (length ls) h.stamps q (count_of (state_of F h ls es) q)) (omega (arith, full F lawful s none)))
 
     module _ (i : ℕ) (free : h.free ≡ Some i) where
-      pub put_stamp : h.next ≡ h.stamps → Puts F.le (meaning_of F h ls es) q x (Err NoStamp) (meaning_of F h ls es)
+      pub put_stamp : h.next ≡ h.stamps → Puts le (meaning_of F h ls es) q x (Err NoStamp) (meaning_of F h ls es)
       put_stamp spent = puts_refused (formed F lawful s) q x NoStamp (put_refused_stamp (meaning_of F h ls es) q near (unlimited (length ls) h.stamps q (count_of (state_of F h ls es) q)) (λ e. not_full F lawful s i free (omega (arith, e))) spent)
 
       module _ (room : h.next ≡ h.stamps → ⊥) where
@@ -87,14 +89,14 @@ module _ {T K : Type 0} (F : Form T K) (lawful : Lawful F) {h : Heads} {ls : Lis
               chained = chain_framed F.none F.idle ls ls' is (omega (arith, long)) (λ k p. same k (omega (arith, own_cell k, p))) (subst (Chained F.none F.idle ls) idle_is s.chained).2;
               cells = λ k. omega (arith, m.cells k, ap (λ y. times y k) idle_is);
               count = omega (arith, m.counts, ap length idle_is);
-              stamps = λ k. grind (arith, nat_tests, ap (λ y. tally stamp_of y k) m.lists, tally-merge (precedes_by F.le) stamp_of (F.list (node i entry leaf leaf)) (F.list (get_or s.trees q leaf)) k, ap (λ y. tally stamp_of y k) (lawful.list_one i entry));
+              stamps = λ k. grind (arith, nat_tests, ap (λ y. tally stamp_of y k) m.lists, tally-merge (precedes_by le) stamp_of (F.list (node i entry leaf leaf)) (F.list (get_or s.trees q leaf)) k, ap (λ y. tally stamp_of y k) (lawful.list_one i entry));
               issued = omega (arith, s.issued, room);
             }
 
-            put_done : Done F (Puts F.le (meaning_of F h ls es) q x (Ok h.next)) (with_queue (with_idle h (F.right (get_or ls i F.none)) (h.next + 1)) q r ((get_or h.queues q no_queue).count + 1)) ls' (set es i entry)
+            put_done : Done F (Puts le (meaning_of F h ls es) q x (Ok h.next)) (with_queue (with_idle h (F.right (get_or ls i F.none)) (h.next + 1)) q r ((get_or h.queues q no_queue).count + 1)) ls' (set es i entry)
             put_done =
                 let c = changed F lawful s q near ls' (set es i entry) is (h.next + 1) m.tree put_change r (F.right (get_or ls i F.none)) ((get_or h.queues q no_queue).count + 1) m.stored_at.at (omega (arith, at_count F lawful s q near, m.counts)) (ap F.right (subst (Chained F.none F.idle ls) idle_is s.chained).1 ∙ lawful.next_is (first is)) in
-                let list = c.list ∙ ap (set (lists F h ls es) q) (m.lists ∙ ap (λ y. merge (precedes_by F.le) y (F.list (get_or s.trees q leaf))) (lawful.list_one i entry) ∙ ap (merge (precedes_by F.le) (entry ∷ [])) (sym (at_list F lawful s q near))) in
+                let list = c.list ∙ ap (set (lists F h ls es) q) (m.lists ∙ ap (λ y. merge (precedes_by le) y (F.list (get_or s.trees q leaf))) (lawful.list_one i entry) ∙ ap (merge (precedes_by le) (entry ∷ [])) (sym (at_list F lawful s q near))) in
                 record {
                   sound = c.sound;
                   effect = record {
@@ -106,21 +108,22 @@ module _ {T K : Type 0} (F : Form T K) (lawful : Lawful F) {h : Heads} {ls : Lis
                   };
                 }
 
-        -- ls₁ and es₁ are the slices once the idle cell is taken, h₁ the heads: what the meld needs and what it comes to
-        pub record Put (h₁ : Heads) (ls₁ : List K) (es₁ : List (Entry T)) : Type 0 where
-          pub meldable : (u : Tree (Entry T)) × (t : Tree (Entry T)) × Meldable F ls₁ es₁ (Some i) (get_or h.queues q no_queue).root u t
-          pub done : (ls₂ : List K) (r : Option ℕ) → length ls₂ ≡ length ls₁ → Melded F ls₁ es₁ meldable.0 meldable.1 ls₂ r → (h₂ : Heads) → h₂ ≡ with_queue h₁ q r ((get_or h.queues q no_queue).count + 1) → Done F (Puts F.le (meaning_of F h ls es) q x (Ok h.next)) h₂ ls₂ es₁
+        -- ls₁ and es₁ are the slices once the idle cell is taken, h₁ the heads, k the queue as it was: what the meld needs
+        -- and what it comes to
+        pub record Put (k : Queue) (h₁ : Heads) (ls₁ : List K) (es₁ : List (Entry T)) : Type 0 where
+          pub meldable : (u : Tree (Entry T)) × (t : Tree (Entry T)) × Meldable F ls₁ es₁ (Some i) k.root u t
+          pub done : (ls₂ : List K) (r : Option ℕ) → length ls₂ ≡ length ls₁ → Melded F ls₁ es₁ meldable.0 meldable.1 ls₂ r → (h₂ : Heads) → h₂ ≡ with_queue h₁ q r (k.count + 1) → Done F (Puts le (meaning_of F h ls es) q x (Ok h.next)) h₂ ls₂ es₁
 
         pub put_inside : (i < length ls) × (i < length es)
         put_inside = let p = first_idle s.idle i (sym free ∙ s.free) in (idle_cell p.0 p.1, omega (arith, idle_cell p.0 p.1, s.long))
 
-        putting_in : Put (with_idle h (F.right (get_or ls i F.none)) (h.next + 1)) (set ls i (F.link leaf leaf)) (set es i entry)
+        putting_in : Put (get_or h.queues q no_queue) (with_idle h (F.right (get_or ls i F.none)) (h.next + 1)) (set ls i (F.link leaf leaf)) (set es i entry)
         putting_in =
             let p = first_idle s.idle i (sym free ∙ s.free) in
             record {
               meldable = (node i entry leaf leaf, get_or s.trees q leaf, put_meldable p.0 p.1);
-              done = λ ls₂ r long m h₂ e. done_by F (Puts F.le (meaning_of F h ls es) q x (Ok h.next)) e refl (put_done p.0 p.1 ls₂ r (long ∙ length-set ls i (F.link leaf leaf)) m);
+              done = λ ls₂ r long m h₂ e. done_by F (Puts le (meaning_of F h ls es) q x (Ok h.next)) e refl (put_done p.0 p.1 ls₂ r (long ∙ length-set ls i (F.link leaf leaf)) m);
             }
 
-        pub putting : (h₁ : Heads) (ls₁ : List K) (es₁ : List (Entry T)) → h₁ ≡ with_idle h (F.right (get_or ls i F.none)) (h.next + 1) → ls₁ ≡ set ls i (F.link leaf leaf) → es₁ ≡ set es i entry → Put h₁ ls₁ es₁
-        putting h₁ ls₁ es₁ a b c = subst (λ y. Put h₁ ls₁ y) (sym c) (subst (λ y. Put h₁ y (set es i entry)) (sym b) (subst (λ y. Put y (set ls i (F.link leaf leaf)) (set es i entry)) (sym a) putting_in))
+        pub putting : (k : Queue) → k ≡ get_or h.queues q no_queue → (h₁ : Heads) (ls₁ : List K) (es₁ : List (Entry T)) → h₁ ≡ with_idle h (F.right (get_or ls i F.none)) (h.next + 1) → ls₁ ≡ set ls i (F.link leaf leaf) → es₁ ≡ set es i entry → Put k h₁ ls₁ es₁
+        putting k e h₁ ls₁ es₁ a b c = subst (λ y. Put k h₁ ls₁ y) (sym c) (subst (λ y. Put k h₁ y (set es i entry)) (sym b) (subst (λ y. Put k y (set ls i (F.link leaf leaf)) (set es i entry)) (sym a) (subst (λ y. Put y (with_idle h (F.right (get_or ls i F.none)) (h.next + 1)) (set ls i (F.link leaf leaf)) (set es i entry)) (sym e) putting_in)))

@@ -13,24 +13,12 @@ use Rattle.stores.proofs.Answering.{no_heights}
 use Rattle.cells.specs.Trees.{Tree, leaf, node, root, size, uses, tree_at}
 use Rattle.cells.specs.IdleCells.{times}
 use Rattle.cells.specs.Forms.{Form, Stored}
+use Rattle.cells.specs.Lawful.{Lawful}
 use Rattle.cells.specs.Queues.{Sound, queue_of, no_queue, lists, state_of, meaning_of}
 use Rattle.cells.specs.declared.heads.Queue.{Queue}
 use Rattle.cells.specs.declared.heads.Heads.{Heads}
 use Rattle.cells.proofs.Trees.{framed, held_framed, read_back, leaf_at}
 use Rattle.cells.proofs.IdleCells.{first_idle, no_idle}
-
--- what the lemmas ask of a form of heap
-pub record Lawful {T K : Type 0} (F : Form T K) : Type 0 where
-  pub left_is : (l r : Tree (Entry T)) → F.left (F.link l r) ≡ root l
-  pub right_is : (l r : Tree (Entry T)) → F.right (F.link l r) ≡ root r
-  pub next_is : (o : Option ℕ) → F.right (F.idle o) ≡ o
-  pub valid_leaf : F.Valid leaf
-  pub valid_one : (i : ℕ) (e : Entry T) → F.Valid (node i e leaf leaf)
-  pub list_leaf : F.list leaf ≡ []
-  pub list_one : (i : ℕ) (e : Entry T) → F.list (node i e leaf leaf) ≡ e ∷ []
-  pub list_root : (i : ℕ) (e : Entry T) (l r : Tree (Entry T)) → 1 ≤ tally stamp_of (F.list (node i e l r)) e.stamp
-  pub list_long : (t : Tree (Entry T)) → length (F.list t) ≡ size t
-  pub sorted : (t : Tree (Entry T)) → ((k : ℕ) → tally stamp_of (F.list t) k ≤ 1) → F.Valid t → Sorted (precedes_by F.le) (F.list t)
 
 pub one_at_most : (b : Bool) → cond b 1 0 ≤ 1
 one_at_most true = omega arith
@@ -41,7 +29,7 @@ sum_map : {A B : Type 0} (f : B → ℕ) (g : A → B) (h : A → ℕ) → ((a :
 sum_map f g h e [] = refl
 sum_map f g h e (x ∷ xs) = omega (arith, sum_by-cons f (g x) (map g xs), sum_by-cons h x xs, sum_map f g h e xs, e x)
 
-module _ {T K : Type 0} (F : Form T K) where
+module _ {T K : Type 0} {le : T → T → Bool} (F : Form le K) where
   -- trees stay where their cells stay
   pub all_framed : (ls ls' : List K) (es es' : List (Entry T)) (ts : List (Tree (Entry T))) → length ls ≤ length ls' → length es ≤ length es' → ((k : ℕ) → 0 < sum_by (λ t. uses t k) ts → get_or ls' k F.none ≡ get_or ls k F.none) → ((k : ℕ) (d : Entry T) → 0 < sum_by (λ t. uses t k) ts → get_or es' k d ≡ get_or es k d) → AllByRecursion (Stored F ls es) ts → AllByRecursion (Stored F ls' es') ts
   all_framed ls ls' es es' [] long wide same alike h = tt
@@ -65,7 +53,7 @@ module _ {T K : Type 0} (F : Form T K) where
         ap (λ x. F.list x ∷ map (λ (q : Queue). F.list (tree_at F.left F.right F.none ls es n q.root)) (map queue_of ts)) (read_back F.left F.right F.link F.none lawful.left_is lawful.right_is ls es n t (omega (arith, sum)) h.0.linked h.0.held)
         ∙ ap (λ x. F.list t ∷ x) (lists_read ls es n ts (omega (arith, sum)) h.1)
 
-    all_sorted : (ls : List K) (es : List (Entry T)) (ts : List (Tree (Entry T))) → ((k : ℕ) → sum_by (λ t. tally stamp_of (F.list t) k) ts ≤ 1) → AllByRecursion (Stored F ls es) ts → AllByRecursion (Sorted (precedes_by F.le)) (map F.list ts)
+    all_sorted : (ls : List K) (es : List (Entry T)) (ts : List (Tree (Entry T))) → ((k : ℕ) → sum_by (λ t. tally stamp_of (F.list t) k) ts ≤ 1) → AllByRecursion (Stored F ls es) ts → AllByRecursion (Sorted (precedes_by le)) (map F.list ts)
     all_sorted ls es [] once h = tt
     all_sorted ls es (t ∷ ts) once h = (
       lawful.sorted t (λ k. omega (arith, once k, sum_by-cons (λ x. tally stamp_of (F.list x) k) t ts)) h.0.valid,
@@ -79,10 +67,10 @@ module _ {T K : Type 0} (F : Form T K) where
       live_is : live (state_of F h ls es) ≡ sum_by size s.trees
       live_is = ap (sum_by length) lists_are ∙ sum_map length F.list size lawful.list_long s.trees
 
-      pub formed : WellFormed F.le (meaning_of F h ls es)
+      pub formed : WellFormed le (meaning_of F h ls es)
       formed = record {
         queues = ap length lists_are ∙ length-map s.trees F.list ∙ s.many;
-        sorted = subst (AllByRecursion (Sorted (precedes_by F.le))) (sym lists_are) (all_sorted ls es s.trees (λ k. omega (arith, s.stamps k, one_at_most (ltb k h.next))) s.stored);
+        sorted = subst (AllByRecursion (Sorted (precedes_by le))) (sym lists_are) (all_sorted ls es s.trees (λ k. omega (arith, s.stamps k, one_at_most (ltb k h.next))) s.stored);
         stamps = λ k. subst (λ n. n ≤ cond (ltb k h.next) 1 0) (sym (ap (sum_by (λ xs. tally stamp_of xs k)) lists_are ∙ sum_map (λ xs. tally stamp_of xs k) F.list (λ t. tally stamp_of (F.list t) k) (λ t. refl) s.trees)) (s.stamps k);
         issued = s.issued;
         stored = omega (arith, live_is, s.total);

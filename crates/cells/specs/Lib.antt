@@ -1,4 +1,6 @@
 pub mod Trees
+pub mod Binary
 pub mod IdleCells
 pub mod Forms
+pub mod Lawful
 pub mod Queues

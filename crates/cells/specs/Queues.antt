@@ -1,5 +1,5 @@
 -- 32 heaps of one form and the idle cells, in two slices: when they are sound, and what they mean.
-use Rattle.std.specs.Prelude.{◌≡◌, ℕ, ◌+◌, ◌≤◌, cond, List, map, length, replicate, Some, None, Ok, Err, sum_by, Option, Result, nat_le, nat_lt, slice_index_or, slice_set}
+use Rattle.std.specs.Prelude.{◌≡◌, ℕ, ◌+◌, ◌≤◌, cond, List, map, length, replicate, Some, None, Ok, Err, sum_by, Option, Result, nat_le, nat_lt, slice_index_or, slice_set, Bool}
 use Rattle.std.specs.List.{AllByRecursion}
 use Rattle.elements.specs.declared.entries.Entry.{Entry}
 use Rattle.elements.specs.Order.{stamp_of}
@@ -22,7 +22,7 @@ abbrev pub no_queue : Queue
 no_queue = record { root = None; count = 0 }
 
 -- one heap to a queue; each cell is in one heap, once, or idle; every stamp is below the next, and no two are alike
-pub record Sound {T K : Type 0} (F : Form T K) (h : Heads) (ls : List K) (es : List (Entry T)) : Type 0 where
+pub record Sound {T K : Type 0} {le : T → T → Bool} (F : Form le K) (h : Heads) (ls : List K) (es : List (Entry T)) : Type 0 where
   pub trees : List (Tree (Entry T))
   pub idle : List ℕ
   pub many : length trees ≡ 32
@@ -39,14 +39,14 @@ pub record Sound {T K : Type 0} (F : Form T K) (h : Heads) (ls : List K) (es : L
   pub sizes : Sizes (length ls) h.stamps
 
 -- the list of each queue, read from the slices
-abbrev pub lists : {T K : Type 0} → Form T K → Heads → List K → List (Entry T) → List (List (Entry T))
+abbrev pub lists : {T K : Type 0} {le : T → T → Bool} → Form le K → Heads → List K → List (Entry T) → List (List (Entry T))
 lists F h ls es = map (λ (q : Queue). F.list (tree_at F.left F.right F.none ls es (length ls) q.root)) h.queues
 
-abbrev pub state_of : {T K : Type 0} → Form T K → Heads → List K → List (Entry T) → State T
+abbrev pub state_of : {T K : Type 0} {le : T → T → Bool} → Form le K → Heads → List K → List (Entry T) → State T
 state_of F h ls es = record { lists = lists F h ls es; next = h.next }
 
 -- what the heads and the two slices mean
-abbrev pub meaning_of : {T K : Type 0} → Form T K → Heads → List K → List (Entry T) → Meaning T
+abbrev pub meaning_of : {T K : Type 0} {le : T → T → Bool} → Form le K → Heads → List K → List (Entry T) → Meaning T
 meaning_of F h ls es = record { state = state_of F h ls es; fixed = bare_fixed (length ls) h.stamps; held = 0 }
 
 -- the heads with another root and count for queue q
@@ -61,9 +61,9 @@ with_idle h f n = record { queues = h.queues; free = f; next = n; stamps = h.sta
 abbrev pub fresh_heads : Option ℕ → ℕ → Heads
 fresh_heads f s = record { queues = replicate 32 no_queue; free = f; next = 0; stamps = s }
 
--- the kept count of queue q
-abbrev pub kept_count : Heads → ℕ → Result ℕ Refusal
-kept_count h q = cond (nat_le 32 q) (Err QueueNumber) (Ok (slice_index_or h.queues q no_queue).count)
+-- the kept root and count of queue q
+abbrev pub kept_queue : Heads → ℕ → Result Queue Refusal
+kept_queue h q = cond (nat_le 32 q) (Err QueueNumber) (Ok (slice_index_or h.queues q no_queue))
 
 -- the entries after a put: an accepted one is written into the first idle cell, and nothing else changes
 abbrev pub placed : {T : Type 0} → Result ℕ Refusal → Option ℕ → List (Entry T) → T → List (Entry T)

@@ -3,7 +3,9 @@
 #![tactic(auto)]
 
 mod heads;
+mod links;
 mod making;
 
 pub use heads::{Heads, Queue};
+pub use links::HeapLink;
 pub use making::fits;

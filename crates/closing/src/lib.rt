@@ -5,7 +5,7 @@ ghost use Rattle.std.specs.Prelude.{◌≡◌, ◌<◌};
 ghost use Rattle.machine.specs.Closing.{one_in, totals as totals-in};
 ghost use Rattle.closing.specs.Counting.{whole, plus};
 
-use machine::{Network, Order, OrderState, Totals};
+use machine::{Network, OrderState, Totals};
 
 // One order more in that state.
 fn add(totals: &mut Totals, state: OrderState)
@@ -14,11 +14,8 @@ fn add(totals: &mut Totals, state: OrderState)
 {
     match state {
         OrderState::NotYet => totals.pending += 1,
-        OrderState::Waiting { stamp: _ } => totals.waiting += 1,
-        OrderState::InService {
-            station: _,
-            stamp: _,
-        } => totals.serving += 1,
+        OrderState::Waiting { .. } => totals.waiting += 1,
+        OrderState::InService { .. } => totals.serving += 1,
         OrderState::Done => totals.done += 1,
         OrderState::Away => totals.away += 1,
         OrderState::Withdrawn => totals.withdrawn += 1,
@@ -30,19 +27,9 @@ fn add(totals: &mut Totals, state: OrderState)
 pub fn totals(network: &Network) -> Totals
     ensures { result ≡ totals-in network.now }
 {
-    let orders: &[Order] = &network.orders;
-    let count = usize::from(network.declared.orders).min(orders.len());
-    let declared = &orders[..count];
-    let mut totals = Totals {
-        pending: 0,
-        waiting: 0,
-        serving: 0,
-        done: 0,
-        away: 0,
-        withdrawn: 0,
-        stranded: 0,
-    };
-    for order in declared {
+    let declared = usize::from(network.declared.orders);
+    let mut totals = Totals::default();
+    for order in network.orders.iter().take(declared) {
         add(&mut totals, order.state);
     }
     totals

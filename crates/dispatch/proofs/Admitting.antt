@@ -44,14 +44,3 @@ module _ {T : Type 0} (le : T → T → Bool) where
     pub rejected : (f : Refusal) → Puts le n 0 (get_or xs i d) (Err f) o → o ≡ n → Admits le m xs (Err (record { index = i; refusal = f })) o
     rejected f p e =
         (here, subst (Admitted le m (take i xs)) (sym e) so_far, p.answer ∙ ap (λ q. put_answer q 0) (sym e))
-
-  -- the store that stands for it stayed as it was
-  pub admitted_still : {A : Type 0} (meaning : A → Meaning T) (x y : A) (m : Meaning T) (xs : List T) → y ≡ x → Admitted le m xs (meaning x) → Admitted le m xs (meaning y)
-  admitted_still meaning x y m xs same = subst (λ z. Admitted le m xs (meaning z)) (sym same)
-
-  pub dispatched : (m k n : Meaning T) (xs ys : List T) → Admitted le m xs k → Served le k ys n → Dispatched le m xs ys n
-  dispatched m k n xs ys a s = record {
-    accepted = a.accepted;
-    served = subst (λ q. Served le q ys n) a.after s;
-    formed = λ f. s.formed (a.formed f);
-  }

@@ -7,25 +7,42 @@ ghost use Rattle.elements.specs.Order.{precedes_by};
 ghost use Rattle.elements.specs.declared.entries.Entry.{Entry};
 ghost use Rattle.stores.specs.Meaning.{count_of};
 ghost use Rattle.stores.specs.Promises.{Takes};
+ghost use Rattle.dispatch.specs.declared.Failure.TheVariants.{Refused, NoMemory};
 ghost use Rattle.dispatch.specs.Dispatching.{Admits, Served, Dispatched, Failed, Unused, Enough, Hindered};
 ghost use Rattle.dispatch.specs.Service.{numbered, Ranked, elements_of, service, service_order};
 
 use elements::{Entry, LineEntry, Ordered};
 use std::alloc::{AllocError, Global};
-use stores::{Agenda, Refusal};
+use stores::{Agenda, Refusal, Store};
 
 // The place of the first order that found no room, counted from 0, and why.
-#[derive(Clone, Copy)]
+#[derive(Clone, Copy, PartialEq, Eq, Debug)]
 pub struct Rejected {
     pub index: usize,
     pub refusal: Refusal,
 }
 
 // Why no order of service is told: an order was rejected, or there is no memory for the answer.
-#[derive(Clone, Copy)]
+#[derive(Clone, Copy, PartialEq, Eq, Debug)]
 pub enum Failure {
     Refused(Rejected),
     NoMemory,
+}
+
+impl From<Rejected> for Failure {
+    ghost from_gives = { λ r f. f ≡ Refused r };
+
+    fn from(rejected: Rejected) -> Failure {
+        Failure::Refused(rejected)
+    }
+}
+
+impl From<AllocError> for Failure {
+    ghost from_gives = { λ e f. f ≡ NoMemory };
+
+    fn from(_: AllocError) -> Failure {
+        Failure::NoMemory
+    }
 }
 
 // Puts each order into queue 0, up to the first that is refused.
@@ -38,9 +55,8 @@ pub fn admit<A: Agenda<Item = LineEntry>>(
     ensures effect { Admits line_le (A.Store.meaning line.old) orders.now result (A.Store.meaning line.new) }
 {
     for (index, order) in orders.iter().enumerate() {
-        match line.put(0, *order) {
-            Ok(_) => {}
-            Err(refusal) => return Err(Rejected { index, refusal }),
+        if let Err(refusal) = line.put(0, *order) {
+            return Err(Rejected { index, refusal });
         }
     }
     Ok(())
@@ -51,10 +67,7 @@ fn waiting<A: Agenda<Item = LineEntry>>(line: &A) -> u16
     requires { A.Store.sound line.now }
     ensures { result ≡ count_of (A.Store.meaning line.now).state 0 }
 {
-    match line.count(0) {
-        Ok(n) => n,
-        Err(_) => unreachable(),
-    }
+    line.count(0).unwrap()
 }
 
 // The front entry of queue 0 leaves it.
@@ -63,10 +76,7 @@ fn take_front<A: Agenda<Item = LineEntry>>(line: &mut A) -> Option<Entry<LineEnt
     ensures sound { A.Store.sound line.new }
     ensures effect { Takes line_le (A.Store.meaning line.old) 0 (Ok result) (A.Store.meaning line.new) }
 {
-    match line.take(0) {
-        Ok(front) => front,
-        Err(_) => unreachable(),
-    }
+    line.take(0).unwrap()
 }
 
 // Takes the orders from queue 0 until it is empty, and gives them in that order. For want of memory none is taken.
@@ -97,13 +107,8 @@ pub fn order_of_service<A: Agenda<Item = LineEntry>>(
     ensures effect { MatchResult result (λ v. Dispatched line_le (A.Store.meaning line.old) orders.now v.items (A.Store.meaning line.new)) (λ e. Failed line_le (A.Store.meaning line.old) orders.now e (A.Store.meaning line.new)) }
     ensures unused { Unused line_le (A.Store.meaning line.old) → MatchResult result (λ v. Enough (A.Store.meaning line.old).fixed.cells (A.Store.meaning line.old).fixed.stamps (length orders.now) × (v.items ≡ service_order orders.now)) (Hindered (A.Store.meaning line.old).fixed.cells (A.Store.meaning line.old).fixed.stamps (length orders.now)) }
 {
-    match admit(line, orders) {
-        Ok(_) => match serve(line, heap) {
-            Ok(served) => Ok(served),
-            Err(_) => Err(Failure::NoMemory),
-        },
-        Err(rejected) => Err(Failure::Refused(rejected)),
-    }
+    admit(line, orders)?;
+    Ok(serve(line, heap)?)
 }
 
 // A theorem, with nothing to compute: whoever is served precedes all who are served later.

@@ -11,7 +11,7 @@ use Rattle.cells.specs.Forms.{StoredAt}
 use Rattle.cells.proofs.Trees.{framed, leaf_at}
 use Rattle.forests.specs.Forests.{Layout, HeapOrdered, listed, shaped}
 use Rattle.forests.specs.Parts.{Apart, Rooted, Added}
-use Rattle.forests.proofs.Layouts.{Consistent}
+use Rattle.forests.specs.Layouts.{Consistent}
 use Rattle.forests.proofs.Listing.{list_lone}
 use Rattle.forests.proofs.Parting.{relinked}
 

@@ -11,7 +11,7 @@ use Rattle.cells.specs.Forms.{StoredAt}
 use Rattle.cells.proofs.Trees.{set_framed, read_same}
 use Rattle.forests.specs.Forests.{Layout, HeapOrdered, Any, listed, shaped}
 use Rattle.forests.specs.Parts.{Rooted, Joinable, Joined, adopted}
-use Rattle.forests.proofs.Layouts.{Consistent}
+use Rattle.forests.specs.Layouts.{Consistent}
 use Rattle.forests.proofs.Listing.{list_joined, tally_lone}
 
 module _ {T K : Type 0} (L : Layout T K) where

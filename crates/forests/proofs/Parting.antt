@@ -11,7 +11,7 @@ use Rattle.cells.specs.Forms.{StoredAt, Built}
 use Rattle.cells.proofs.Trees.{framed, set_framed, read_back, Node, node_at, leaf_at}
 use Rattle.forests.specs.Forests.{Layout, Before, listed, shaped}
 use Rattle.forests.specs.Parts.{ForestAt, Apart, Parted, Rooted}
-use Rattle.forests.proofs.Layouts.{Consistent}
+use Rattle.forests.specs.Layouts.{Consistent}
 use Rattle.forests.proofs.Listing.{list_moved, tally_first}
 
 module _ {T K : Type 0} (L : Layout T K) where

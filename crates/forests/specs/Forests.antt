@@ -46,9 +46,8 @@ pub record Layout (T K : Type 0) : Type 1 where
   pub idle : Option ℕ → K
 
 -- the form of heaps whose forests have a shape, and in which every parent precedes its children
-abbrev pub shaped : {T K : Type 0} → Layout T K → (Tree (Entry T) → Type 0) → Form T K
+abbrev pub shaped : {T K : Type 0} (L : Layout T K) → (Tree (Entry T) → Type 0) → Form L.le K
 shaped L Shape = record {
-  le = L.le;
   link = L.link;
   left = L.child;
   right = L.next;

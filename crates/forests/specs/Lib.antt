@@ -1,2 +1,3 @@
 pub mod Forests
+pub mod Layouts
 pub mod Parts

@@ -4,16 +4,13 @@ use Rattle.elements.specs.declared.entries.Entry.{Entry}
 use Rattle.elements.specs.Order.{precedes_by, stamp_of}
 use Rattle.stores.specs.SortedLists.{merge, tally}
 use Rattle.cells.specs.Trees.{Tree, leaf, node, size, uses, Held, Linked}
-use Rattle.cells.specs.Forms.{StoredAt, Built}
+use Rattle.cells.specs.Forms.{StoredAt, HeapAt, Built}
 use Rattle.forests.specs.Forests.{Layout, HeapOrdered, Any, listed, shaped}
 
 module _ {T K : Type 0} (L : Layout T K) where
   -- a forest that lies in the slices, with its first root at a
-  pub record ForestAt (Shape : Tree (Entry T) → Type 0) (ls : List K) (es : List (Entry T)) (a : Option ℕ) (t : Tree (Entry T)) : Type 0 where
-    pub stored_at : StoredAt (shaped L Shape) ls es a t
-    pub cells : (k : ℕ) → uses t k ≤ 1
-    pub stamps : (k : ℕ) → tally stamp_of (listed (precedes_by L.le) t) k ≤ 1
-    pub few : size t ≤ 4096
+  abbrev pub ForestAt : (Tree (Entry T) → Type 0) → List K → List (Entry T) → Option ℕ → Tree (Entry T) → Type 0
+  ForestAt Shape ls es a t = HeapAt (shaped L Shape) ls es a t
 
   -- two such forests that share no cell and no stamp
   pub record Apart (One Two : Tree (Entry T) → Type 0) (ls : List K) (es : List (Entry T)) (a b : Option ℕ) (s t : Tree (Entry T)) : Type 0 where

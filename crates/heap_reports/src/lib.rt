@@ -2,17 +2,20 @@
 #![tactic(auto)]
 
 ghost use Rattle.std.specs.Prelude.{IfOk, string_bytes};
-ghost use Rattle.elements.specs.Elements.{line_le};
-ghost use Rattle.stores.specs.Meaning.{WellFormed};
-ghost use Rattle.stores.specs.Promises.{Bare};
 ghost use Rattle.cancelled.specs.Cancelled.{Fit};
 ghost use Rattle.service_reports.specs.Reports.{Printed};
 
-use elements::LineEntry;
+use cells::HeapLink;
+use elements::{Entry, LineEntry};
+use heap_store::make;
 use lazy::Lazy;
 use service_reports::report;
 use std::alloc::{AllocError, Global};
-use stores::BareHeap;
+use stores::{BareHeap, Sizes};
+
+const CELLS: u16 = 4096;
+
+const STAMPS: u16 = 32768;
 
 // By a heap with nothing put yet, under the layer that makes an agenda of it.
 pub fn report_over<B: BareHeap<Item = LineEntry> + Drop>(
@@ -21,11 +24,28 @@ pub fn report_over<B: BareHeap<Item = LineEntry> + Drop>(
     heap: Global,
 ) -> Result<String, AllocError>
     requires sound { B.Store.sound below }
-    requires formed { WellFormed line_le (B.Store.meaning below) }
-    requires bare { Bare (B.Store.meaning below) }
     requires fit { Fit (B.Store.meaning below) }
     ensures { IfOk result (λ s. Printed (B.Store.meaning below).fixed.cells (B.Store.meaning below).fixed.stamps text.now (string_bytes s)) }
 {
     let mut line = Lazy::make(below);
     report(&mut line, text, heap)
+}
+
+// By a store of heaps of the given form, in memory of its own.
+pub fn printed<L: HeapLink<LineEntry>>(text: &[u8], heap: Global) -> Result<String, AllocError>
+    ensures { IfOk result (λ s. Printed 4096 32768 text.now (string_bytes s)) }
+{
+    let element = LineEntry {
+        order: 0,
+        urgency: 0,
+        due: 0,
+    };
+    let sizes = Sizes {
+        cells: CELLS,
+        stamps: STAMPS,
+    };
+    let mut links = vec![in heap; L::single(); 4096]?;
+    let mut entries = vec![in heap; Entry { element, stamp: 0 }; 4096]?;
+    let store = make::<L, LineEntry>(&mut links, &mut entries, sizes);
+    report_over(store, text, heap)
 }

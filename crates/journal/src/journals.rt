@@ -7,10 +7,11 @@ ghost use Rattle.stores.specs.Refusals.{Tests};
 ghost use Rattle.stores.specs.declared.refusals.Unfit.TheVariants.{OutOfRange};
 ghost use Rattle.journal.specs.Kept.{History, Writes, recent};
 ghost use Rattle.journal.specs.Raised.{raised, journal_meaning, journal_sound, Fit, put_change, take_change, meld_change, cancel_change};
+ghost use Rattle.journal.specs.Formed.{formed_raised};
 
 use crate::logs::{Change, Log};
 use elements::Entry;
-use stores::{Agenda, Refusal, Unfit};
+use stores::{Agenda, Refusal, Sizes, Store, Unfit};
 
 #[derive(Drop)]
 pub struct Journal<B> {
@@ -34,7 +35,6 @@ impl<B: Agenda> Journal<B> {
     // The layer over this store, with so many places and no change in them.
     pub fn make(below: B, used: u16) -> Journal<B>
         requires sound { B.Store.sound below }
-        requires formed { WellFormed B.Item.Ordered.le (B.Store.meaning below) }
         requires fit { Fit (B.Store.meaning below) used }
         ensures sound { journal_sound B.Item.Ordered.le B.Store.sound B.Store.meaning result }
         ensures formed { WellFormed B.Item.Ordered.le (journal_meaning B.Store.meaning result) }
@@ -55,13 +55,16 @@ impl<B: Agenda> Journal<B> {
     }
 }
 
-// Beside what every agenda promises, each call that may change the store says what it writes.
-impl<B: Agenda> Agenda for Journal<B> {
+// Beside what every store promises, each call that may change it says what it writes. The clauses of an impl stand in the
+// place of the trait's, so those are said again. The other calls are the store's below: no macro may write them.
+impl<B: Agenda> Store for Journal<B> {
     type Item = B::Item;
 
     ghost meaning = { journal_meaning B.Store.meaning };
 
     ghost sound = { journal_sound B.Item.Ordered.le B.Store.sound B.Store.meaning };
+
+    ghost formed = { λ s h. formed_raised h };
 
     fn put(&mut self, queue: u8, element: B::Item) -> Result<u16, Refusal>
         requires { journal_sound B.Item.Ordered.le B.Store.sound B.Store.meaning self.old }
@@ -70,13 +73,9 @@ impl<B: Agenda> Agenda for Journal<B> {
         ensures refused { Unchanged result self.old self.new }
         ensures writes { Writes self.old.own (put_change queue result) self.new.own }
     {
-        match self.below.put(queue, element) {
-            Ok(stamp) => {
-                self.own.note(Change::Put { queue, stamp });
-                Ok(stamp)
-            }
-            Err(refusal) => Err(refusal),
-        }
+        let stamp = self.below.put(queue, element)?;
+        self.own.note(Change::Put { queue, stamp });
+        Ok(stamp)
     }
 
     fn first(&self, queue: u8) -> Result<Option<Entry<B::Item>>, Refusal> {
@@ -90,19 +89,12 @@ impl<B: Agenda> Agenda for Journal<B> {
         ensures refused { Unchanged result self.old self.new }
         ensures writes { Writes self.old.own (take_change queue result) self.new.own }
     {
-        match self.below.take(queue) {
-            Ok(front) => match front {
-                Some(entry) => {
-                    self.own.note(Change::Take {
-                        queue,
-                        stamp: entry.stamp,
-                    });
-                    Ok(Some(entry))
-                }
-                None => Ok(None),
-            },
-            Err(refusal) => Err(refusal),
-        }
+        let Some(entry) = self.below.take(queue)? else {
+            return Ok(None);
+        };
+        let stamp = entry.stamp;
+        self.own.note(Change::Take { queue, stamp });
+        Ok(Some(entry))
     }
 
     fn meld(&mut self, into: u8, from: u8) -> Result<u16, Refusal>
@@ -112,13 +104,9 @@ impl<B: Agenda> Agenda for Journal<B> {
         ensures refused { Unchanged result self.old self.new }
         ensures writes { Writes self.old.own (meld_change into from result) self.new.own }
     {
-        match self.below.meld(into, from) {
-            Ok(moved) => {
-                self.own.note(Change::Meld { into, from });
-                Ok(moved)
-            }
-            Err(refusal) => Err(refusal),
-        }
+        let moved = self.below.meld(into, from)?;
+        self.own.note(Change::Meld { into, from });
+        Ok(moved)
     }
 
     fn count(&self, queue: u8) -> Result<u16, Refusal> {
@@ -129,14 +117,16 @@ impl<B: Agenda> Agenda for Journal<B> {
         self.below.issued()
     }
 
-    fn sizes(&self) -> (u16, u16) {
+    fn sizes(&self) -> Sizes {
         self.below.sizes()
     }
 
     fn height(&self) -> u8 {
         self.own.height
     }
+}
 
+impl<B: Agenda> Agenda for Journal<B> {
     fn cancel(&mut self, stamp: u16) -> Result<u8, Refusal>
         requires { journal_sound B.Item.Ordered.le B.Store.sound B.Store.meaning self.old }
         ensures sound { journal_sound B.Item.Ordered.le B.Store.sound B.Store.meaning self.new }
@@ -144,12 +134,8 @@ impl<B: Agenda> Agenda for Journal<B> {
         ensures refused { Unchanged result self.old self.new }
         ensures writes { Writes self.old.own (cancel_change stamp result) self.new.own }
     {
-        match self.below.cancel(stamp) {
-            Ok(queue) => {
-                self.own.note(Change::Cancel { stamp });
-                Ok(queue)
-            }
-            Err(refusal) => Err(refusal),
-        }
+        let queue = self.below.cancel(stamp)?;
+        self.own.note(Change::Cancel { stamp });
+        Ok(queue)
     }
 }

@@ -1,16 +1,19 @@
 // Which queue has each stamp, and how many entries of each queue count.
-ghost use Rattle.std.specs.Prelude.{◌≡◌, ◌+◌, ◌-◌, ◌<◌, ◌≤◌, length, set, replicate, if◌then◌else◌, nat_eq, slice_index, slice_index_or, slice_set};
+ghost use Rattle.std.specs.Prelude.{◌≡◌, ◌+◌, ◌-◌, ◌<◌, ◌≤◌, length, set, replicate, SomeIff, slice_index, slice_index_or, slice_set};
 ghost use Rattle.stores.specs.declared.refusals.Refusal.TheVariants.{NotQueued};
 ghost use Rattle.cancelled.specs.Cancelled.{renamed};
 
 use stores::Refusal;
 
-// `queue_of` has each stamp's queue plus 1, or 0 when it is in none.
+// `queue_of` has each stamp's queue plus 1, or 0 when it is in none: a byte for each stamp, which is all the memory that a
+// layer may have.
 #[derive(Drop)]
 pub struct Marks {
     pub(crate) queue_of: [u8; 32768],
     pub(crate) counts: [u16; 32],
     pub(crate) height: u8,
+    ghost marks_long: { length queue_of ≡ 32768 },
+    ghost counts_long: { length counts ≡ 32 },
 }
 
 impl Marks {
@@ -28,16 +31,11 @@ impl Marks {
         }
     }
 
-    // The mark of the stamp: its queue plus 1, or 0.
-    pub(crate) fn mark(&self, stamp: u16) -> u8
-        requires { length self.now.queue_of ≡ 32768 }
-        ensures { result ≡ slice_index_or self.now.queue_of stamp 0 }
+    // The queue that has the stamp, or none.
+    pub(crate) fn queue(&self, stamp: u16) -> Option<u8>
+        ensures { SomeIff result (1 ≤ slice_index_or self.now.queue_of stamp 0) (slice_index_or self.now.queue_of stamp 0 - 1) }
     {
-        if stamp < 32768 {
-            self.queue_of[stamp as usize]
-        } else {
-            0
-        }
+        self.queue_of.get(stamp as usize)?.checked_sub(1)
     }
 
     // Why a stamp with no mark cannot be cancelled.
@@ -52,7 +50,6 @@ impl Marks {
     pub(crate) fn enter(&mut self, stamp: u16, queue: u8)
         requires fits { stamp < length self.old.queue_of }
         requires near { queue < 32 }
-        requires long { length self.old.counts ≡ 32 }
         requires room { slice_index self.old.counts queue < 65535 }
         ensures marks { self.new.queue_of ≡ set self.old.queue_of stamp (queue + 1) }
         ensures counts { self.new.counts ≡ slice_set self.old.counts queue (slice_index self.old.counts queue + 1) }
@@ -65,7 +62,6 @@ impl Marks {
     pub(crate) fn leave(&mut self, stamp: u16, queue: u8)
         requires fits { stamp < length self.old.queue_of }
         requires near { queue < 32 }
-        requires long { length self.old.counts ≡ 32 }
         requires some { 1 ≤ slice_index self.old.counts queue }
         ensures marks { self.new.queue_of ≡ set self.old.queue_of stamp 0 }
         ensures counts { self.new.counts ≡ slice_set self.old.counts queue (slice_index self.old.counts queue - 1) }
@@ -78,7 +74,6 @@ impl Marks {
     // The entries of the queue `from` go into the queue `into`; the answer is how many count.
     pub(crate) fn join(&mut self, into: u8, from: u8) -> u16
         requires near { (into < 32) × (from < 32) }
-        requires long { length self.old.counts ≡ 32 }
         requires room { slice_index self.old.counts into + slice_index self.old.counts from ≤ 65535 }
         ensures moved { result ≡ slice_index self.old.counts from }
         ensures marks { self.new.queue_of ≡ renamed (from + 1) (into + 1) self.old.queue_of }
@@ -97,12 +92,8 @@ fn rename(marks: &mut [u8], old: u8, new: u8)
     ensures { marks.new ≡ renamed old new marks.old }
 {
     for mark in marks.iter_mut() {
-        *mark = renamed_mark(*mark, old, new);
+        if *mark == old {
+            *mark = new;
+        }
     }
-}
-
-fn renamed_mark(mark: u8, old: u8, new: u8) -> u8
-    ensures { result ≡ (if nat_eq mark old then new else mark) }
-{
-    if mark == old { new } else { mark }
 }

@@ -1,1 +1,3 @@
-pub mod Lending
+pub mod Ranks
+pub mod Melding
+pub mod Taking

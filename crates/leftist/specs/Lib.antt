@@ -1,1 +1,2 @@
-pub mod Store
+pub mod Leftist
+pub mod Lawful

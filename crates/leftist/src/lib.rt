@@ -1,9 +1,12 @@
-// A store of 32 queues, each a leftist heap in the cells of two lent slices. It is made in two calls: `fits` tests the
-// slices and numbers, and `make` takes what passed the test.
+// Leftist heaps whose nodes are cells of two lent slices, links and entries, for any element type, and the store of 32
+// queues over them.
 #![tactic(auto)]
 
-mod store;
+mod heaps;
+mod links;
+mod trees;
 
-pub use cells::fits;
-pub use leftist_core::Link;
-pub use store::{Leftist, make};
+pub use heap_store::{fits, make};
+pub use heaps::Leftist;
+pub use links::Link;
+pub use trees::ranks_are_low;

@@ -1,1 +1,3 @@
-pub mod Lending
+pub mod Melding
+pub mod Turns
+pub mod Taking

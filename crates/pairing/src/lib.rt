@@ -1,9 +1,12 @@
-// A store of 32 queues, each a pairing heap in the cells of two lent slices. It is made in two calls: `fits` tests the
-// slices and numbers, and `make` takes what passed the test.
+// Pairing heaps whose nodes are cells of two lent slices, links and entries, for any element type, and the store of 32
+// queues over them.
 #![tactic(auto)]
 
-mod store;
+mod heaps;
+mod links;
+mod passes;
+mod trees;
 
-pub use cells::fits;
-pub use pairing_core::Link;
-pub use store::{Pairing, make};
+pub use heap_store::{fits, make};
+pub use heaps::Pairing;
+pub use links::Link;

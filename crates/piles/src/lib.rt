@@ -1,9 +1,9 @@
 // Layers over layers, over any agenda or any bare heap: each making asks only what its test and the making below gave.
+// One maker for all would be no plainer: a trait of layers would have each layer's test, meaning and soundness said twice.
 #![tactic(auto)]
 
 ghost use Rattle.std.specs.Prelude.{◌≡◌, []};
 ghost use Rattle.stores.specs.Meaning.{WellFormed};
-ghost use Rattle.stores.specs.Promises.{Bare};
 ghost use Rattle.cancelled.specs.Cancelled.{fresh_lazily};
 ghost use Rattle.lazy.specs.Lazily.{lazy_meaning, lazy_sound};
 ghost use Rattle.quota.specs.Limiting.{with_limits, quota_meaning, quota_sound};
@@ -22,8 +22,7 @@ pub fn journal_over_quota<B: Agenda + Drop>(
     limits: [u16; 32],
     used: u16,
 ) -> Result<Journal<Quota<B>>, Unfit>
-    requires sound { B.Store.sound below }
-    requires formed { WellFormed B.Item.Ordered.le (B.Store.meaning below) }
+    requires { B.Store.sound below }
     ensures test { MadeIf result (TwoMore (B.Store.meaning below) × Places used) }
     ensures sound { OfMade result (journal_sound B.Item.Ordered.le (quota_sound B.Item.Ordered.le B.Store.sound B.Store.meaning) (quota_meaning B.Store.meaning)) }
     ensures formed { OfMade result (λ p. WellFormed B.Item.Ordered.le (journal_meaning (quota_meaning B.Store.meaning) p)) }
@@ -43,8 +42,6 @@ pub fn journal_over_quota_over_lazy<B: BareHeap + Drop>(
     used: u16,
 ) -> Result<Journal<Quota<Lazy<B>>>, Unfit>
     requires sound { B.Store.sound below }
-    requires formed { WellFormed B.Item.Ordered.le (B.Store.meaning below) }
-    requires bare { Bare (B.Store.meaning below) }
     requires unused { (B.Store.meaning below).state.next ≡ 0 }
     ensures test { MadeIf result (Places used) }
     ensures sound { OfMade result (journal_sound B.Item.Ordered.le (quota_sound B.Item.Ordered.le (lazy_sound B.Item.Ordered.le B.Store.sound B.Store.meaning) (lazy_meaning B.Store.meaning)) (quota_meaning (lazy_meaning B.Store.meaning))) }
@@ -62,8 +59,7 @@ pub fn quota_over_quota<B: Agenda + Drop>(
     inner: [u16; 32],
     outer: [u16; 32],
 ) -> Result<Quota<Quota<B>>, Unfit>
-    requires sound { B.Store.sound below }
-    requires formed { WellFormed B.Item.Ordered.le (B.Store.meaning below) }
+    requires { B.Store.sound below }
     ensures test { MadeIf result (TwoMore (B.Store.meaning below)) }
     ensures sound { OfMade result (quota_sound B.Item.Ordered.le (quota_sound B.Item.Ordered.le B.Store.sound B.Store.meaning) (quota_meaning B.Store.meaning)) }
     ensures formed { OfMade result (λ p. WellFormed B.Item.Ordered.le (quota_meaning (quota_meaning B.Store.meaning) p)) }
@@ -81,8 +77,7 @@ pub fn journal_over_journal<B: Agenda + Drop>(
     inner: u16,
     outer: u16,
 ) -> Result<Journal<Journal<B>>, Unfit>
-    requires sound { B.Store.sound below }
-    requires formed { WellFormed B.Item.Ordered.le (B.Store.meaning below) }
+    requires { B.Store.sound below }
     ensures test { MadeIf result (TwoMore (B.Store.meaning below) × Places inner × Places outer) }
     ensures sound { OfMade result (journal_sound B.Item.Ordered.le (journal_sound B.Item.Ordered.le B.Store.sound B.Store.meaning) (journal_meaning B.Store.meaning)) }
     ensures formed { OfMade result (λ p. WellFormed B.Item.Ordered.le (journal_meaning (journal_meaning B.Store.meaning) p)) }

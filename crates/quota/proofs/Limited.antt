@@ -11,12 +11,7 @@ use Rattle.stores.specs.Meaning.{Pair, Fixed, Meaning, WellFormed, AtMost, count
 use Rattle.stores.specs.Calls.{put_answer, count_answer}
 use Rattle.stores.specs.Promises.{Puts, Takes, Melds, Cancels}
 use Rattle.quota.specs.Limiting.{added, with_limits, with_limits_fixed, Over}
-
-length_added : (ls : List ℕ) (h : ℕ) (pss : List (List Pair)) → length (added ls h pss) ≡ length pss
-unfolding added
-length_added [] h pss = refl
-length_added (l ∷ ls) h [] = refl
-length_added (l ∷ ls) h (ps ∷ pss) = ap suc (length_added ls h pss)
+use Rattle.quota.specs.Formed.{formed_with_limits}
 
 added_at : (ls : List ℕ) (h : ℕ) (pss : List (List Pair)) (q : ℕ) → q < length ls → q < length pss → get_or (added ls h pss) q [] ≡ record { limit = get_or ls q 0; height = h } ∷ get_or pss q []
 unfolding added
@@ -31,16 +26,6 @@ reached_at_most h (p ∷ ps) n a =
     let k = reached_at_most h ps n a.1 in
     let j = a.0 in
     elim (leb p.limit n) as (λ b. cond b (max p.height (reached_height ps n)) (reached_height ps n) ≤ h) [ true ↦ omega arith | false ↦ k ]
-
-higher : (h : ℕ) (ps : List Pair) → AtMost h ps → AtMost (h + 1) ps
-higher h ps a = All-weaker _ _ (λ (p : Pair) (b : p.height ≤ h). omega (arith, b)) ps a
-
-heights_added : (ls : List ℕ) (h : ℕ) (pss : List (List Pair)) → AllByRecursion (AtMost h) pss → AllByRecursion (AtMost (h + 1)) (added ls (h + 1) pss)
-unfolding added
-heights_added [] h [] a = tt
-heights_added [] h (ps ∷ pss) a = (higher h ps a.0, heights_added [] h pss a.1)
-heights_added (l ∷ ls) h [] a = tt
-heights_added (l ∷ ls) h (ps ∷ pss) a = ((omega arith, higher h ps a.0), heights_added ls h pss a.1)
 
 -- what a count tells of the queue's number
 module _ {T : Type 0} (m : Meaning T) (q : ℕ) where
@@ -59,23 +44,7 @@ module _ {T : Type 0} (m : Meaning T) (q : ℕ) where
       ]
 
 module _ {T : Type 0} {le : T → T → Bool} {B : Type 0} (m : Meaning T) (ls : List ℕ) (h : ℕ) (o : Over le B m ls h) where
-  pub formed_with_limits : WellFormed le (with_limits ls m)
-  formed_with_limits =
-      let f = o.formed in
-      record {
-        queues = f.queues;
-        sorted = f.sorted;
-        stamps = f.stamps;
-        issued = f.issued;
-        stored = f.stored;
-        idle = f.idle;
-        limited = length_added ls (m.fixed.height + 1) m.fixed.pairs ∙ f.limited;
-        heights = heights_added ls m.fixed.height m.fixed.pairs f.heights;
-        sizes = f.sizes;
-        low = omega (arith, o.above, o.low);
-      }
-
-  pub over_next : {C : Type 0} (n : Meaning T) → C → WellFormed le n → n.fixed ≡ m.fixed → Over le C n ls h
+  over_next : {C : Type 0} (n : Meaning T) → C → WellFormed le n → n.fixed ≡ m.fixed → Over le C n ls h
   over_next n c f e = record { below = c; formed = f; own = o.own; above = o.above ∙ ap (λ (x : Fixed). x.height + 1) (sym e); low = o.low }
 
   -- n is the count of queue q, and b whether its limit is reached
@@ -98,16 +67,19 @@ module _ {T : Type 0} {le : T → T → Bool} {B : Type 0} (m : Meaning T) (ls :
         let top : h ≡ max (m.fixed.height + 1) (reached_height (get_or m.fixed.pairs q []) (count_of m.state q)) = omega (arith, o.above) in
         ap Err is ∙ rw (lt-leb 32 q (counted m q n count).0, here, full) (ap (λ (j : ℕ). Err (AtLimit j)) top)
 
--- what the call below promises, the layer's promises; n is what the store below means after it
-module _ {T : Type 0} {le : T → T → Bool} {C : Type 0} (m n : Meaning T) (ls : List ℕ) (h : ℕ) (o : Over le C n ls h) where
+-- what the call below promises, the layer promises; m is what the store below means before it, n after
+module _ {T : Type 0} {le : T → T → Bool} {B : Type 0} (m n : Meaning T) (ls : List ℕ) (h : ℕ) (o : Over le B m ls h) where
+  formed_next : WellFormed le n → n.fixed ≡ m.fixed → WellFormed le (with_limits ls n)
+  formed_next f e = formed_with_limits (over_next m ls h o {C = Unit {0}} n tt f e)
+
   pub puts_over : (q : ℕ) (x : T) (r : Result ℕ Refusal) → put_answer m q ≡ put_answer (with_limits ls m) q → Puts le m q x r n → Puts le (with_limits ls m) q x r (with_limits ls n)
-  puts_over q x r same e = record { answer = e.answer ∙ same; after = e.after; fixed = ap (with_limits_fixed ls) e.fixed; held = e.held; formed = formed_with_limits n ls h o }
+  puts_over q x r same e = record { answer = e.answer ∙ same; after = e.after; fixed = ap (with_limits_fixed ls) e.fixed; held = e.held; formed = formed_next e.formed e.fixed }
 
   pub takes_over : (q : ℕ) (r : Result (Option (Entry T)) Refusal) → Takes le m q r n → Takes le (with_limits ls m) q r (with_limits ls n)
-  takes_over q r e = record { answer = e.answer; after = e.after; fixed = ap (with_limits_fixed ls) e.fixed; held = e.held; formed = formed_with_limits n ls h o }
+  takes_over q r e = record { answer = e.answer; after = e.after; fixed = ap (with_limits_fixed ls) e.fixed; held = e.held; formed = formed_next e.formed e.fixed }
 
   pub melds_over : (a b : ℕ) (r : Result ℕ Refusal) → Melds le m a b r n → Melds le (with_limits ls m) a b r (with_limits ls n)
-  melds_over a b r e = record { answer = e.answer; after = e.after; fixed = ap (with_limits_fixed ls) e.fixed; held = e.held; formed = formed_with_limits n ls h o }
+  melds_over a b r e = record { answer = e.answer; after = e.after; fixed = ap (with_limits_fixed ls) e.fixed; held = e.held; formed = formed_next e.formed e.fixed }
 
   pub cancels_over : (k : ℕ) (r : Result ℕ Refusal) → Cancels le m k r n → Cancels le (with_limits ls m) k r (with_limits ls n)
-  cancels_over k r e = record { answer = e.answer; after = e.after; fixed = ap (with_limits_fixed ls) e.fixed; held = e.held; formed = formed_with_limits n ls h o }
+  cancels_over k r e = record { answer = e.answer; after = e.after; fixed = ap (with_limits_fixed ls) e.fixed; held = e.held; formed = formed_next e.formed e.fixed }

@@ -1,52 +1,18 @@
 // A limit for each queue, over any agenda.
 #![tactic(auto)]
 
-ghost use Rattle.std.specs.Prelude.{◌≡◌, ◌+◌, ◌<◌, length, nat_le, slice_index};
+mod limits;
+
+ghost use Rattle.std.specs.Prelude.{◌≡◌};
 ghost use Rattle.stores.specs.Meaning.{WellFormed};
 ghost use Rattle.stores.specs.Refusals.{Tests};
-ghost use Rattle.stores.specs.declared.refusals.Refusal.TheVariants.{AtLimit};
 ghost use Rattle.stores.specs.declared.refusals.Unfit.TheVariants.{OutOfRange};
 ghost use Rattle.quota.specs.Limiting.{with_limits, quota_meaning, quota_sound, Fit};
+ghost use Rattle.quota.specs.Formed.{formed_with_limits};
 
 use elements::Entry;
-use stores::{Agenda, Refusal, Unfit};
-
-#[derive(Drop)]
-pub struct Limits {
-    limits: [u16; 32],
-    height: u8,
-}
-
-impl Limits {
-    // Those of a layer over a store of the height `below`.
-    fn over(below: u8, limits: [u16; 32]) -> Limits
-        requires { below < 255 }
-        ensures limits { result.limits ≡ limits }
-        ensures height { result.height ≡ below + 1 }
-    {
-        Limits {
-            limits,
-            height: below + 1,
-        }
-    }
-
-    // Whether the queue is at its limit when it has so many entries.
-    fn reached(&self, queue: u8, count: u16) -> bool
-        requires long { length self.now.limits ≡ 32 }
-        requires near { queue < 32 }
-        ensures { result ≡ nat_le (slice_index self.now.limits queue) count }
-    {
-        count >= self.limits[queue as usize]
-    }
-
-    fn refusal(&self) -> Refusal
-        ensures { result ≡ AtLimit self.now.height }
-    {
-        Refusal::AtLimit {
-            height: self.height,
-        }
-    }
-}
+pub use limits::Limits;
+use stores::{Agenda, Refusal, Sizes, Store, Unfit};
 
 #[derive(Drop)]
 pub struct Quota<B> {
@@ -70,7 +36,6 @@ impl<B: Agenda> Quota<B> {
     // The layer over this store, with a limit for each queue.
     pub fn make(below: B, limits: [u16; 32]) -> Quota<B>
         requires sound { B.Store.sound below }
-        requires formed { WellFormed B.Item.Ordered.le (B.Store.meaning below) }
         requires fit { Fit (B.Store.meaning below) }
         ensures sound { quota_sound B.Item.Ordered.le B.Store.sound B.Store.meaning result }
         ensures formed { WellFormed B.Item.Ordered.le (quota_meaning B.Store.meaning result) }
@@ -81,24 +46,23 @@ impl<B: Agenda> Quota<B> {
     }
 }
 
-// The meaning is that of the store below, with one more pair of limit and height on each queue.
-impl<B: Agenda> Agenda for Quota<B> {
+// The meaning is that of the store below, with one more pair of limit and height on each queue. What a limit does not
+// concern is the store's below: no macro may write these calls.
+impl<B: Agenda> Store for Quota<B> {
     type Item = B::Item;
 
     ghost meaning = { quota_meaning B.Store.meaning };
 
     ghost sound = { quota_sound B.Item.Ordered.le B.Store.sound B.Store.meaning };
 
+    ghost formed = { λ s h. formed_with_limits h };
+
     fn put(&mut self, queue: u8, element: B::Item) -> Result<u16, Refusal> {
-        match self.below.count(queue) {
-            Ok(count) => {
-                if self.own.reached(queue, count) {
-                    return Err(self.own.refusal());
-                }
-                self.below.put(queue, element)
-            }
-            Err(refusal) => Err(refusal),
+        let count = self.below.count(queue)?;
+        if self.own.reached(queue, count) {
+            return Err(self.own.refusal());
         }
+        self.below.put(queue, element)
     }
 
     fn first(&self, queue: u8) -> Result<Option<Entry<B::Item>>, Refusal> {
@@ -121,14 +85,16 @@ impl<B: Agenda> Agenda for Quota<B> {
         self.below.issued()
     }
 
-    fn sizes(&self) -> (u16, u16) {
+    fn sizes(&self) -> Sizes {
         self.below.sizes()
     }
 
     fn height(&self) -> u8 {
         self.own.height
     }
+}
 
+impl<B: Agenda> Agenda for Quota<B> {
     fn cancel(&mut self, stamp: u16) -> Result<u8, Refusal> {
         self.below.cancel(stamp)
     }

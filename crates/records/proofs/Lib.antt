@@ -6,3 +6,4 @@ pub mod Queues
 pub mod Numbers
 pub mod Totals
 pub mod Lists
+pub mod Standing

@@ -1,23 +1,20 @@
 -- Digits in front of what is no digit.
-use Rattle.std.proofs.Common.{◌≡◌, ℕ, ◌+◌, ◌-◌, ◌*◌, ◌^◌, ◌<◌, ◌≤◌, min, ◌⊎◌, List, [], ◌∷◌, ◌++◌, map, length, get_or, take, drop, decimal, sym, refl, ap, ◌∙◌, subst, inl, inr, arith, take-append-drop, rules}
-use Rattle.std.specs.List.{AllByRecursion}
-use Rattle.std.proofs.ByRecursion.{All-more}
-use Rattle.std.proofs.lemmas.List.{take_more, drop_more, drop_all, length-take-le, get_or-take}
+use Rattle.std.proofs.Common.{◌≡◌, ℕ, ◌+◌, ◌-◌, ◌*◌, ◌^◌, ◌<◌, min, ◌⊎◌, List, [], ◌∷◌, ◌++◌, map, length, get_or, take, drop, decimal, sym, refl, ap, ◌∙◌, subst, inl, inr, arith, take-append-drop, rules}
+use Rattle.std.specs.List.{fold, AllByRecursion}
 use Rattle.std.proofs.lemmas.Bool.{cases_eq}
 use Rattle.std.proofs.lemmas.Str.Parse.{IsNumeralModel, numerals_by_fold}
 use Rattle.std.proofs.lemmas.Fmt.{decimal_digit, decimal_nonempty, first_decimal, digits_decimal, digits_value-decimal, decimal-digits_value}
-use Rattle.scanner.specs.Numerals.{Digit, Numeral, read_on, value, told, Stop, Found}
+use Rattle.scanner.specs.Numerals.{Digit, Numeral, read_on, value, told, Stop}
 
-read_on_push : (n : ℕ) (xs : List ℕ) (c : ℕ) → read_on n (xs ++ c ∷ []) ≡ read_on n xs * 10 + (c - 48)
-read_on_push n [] c = refl
-read_on_push n (x ∷ xs) c = read_on_push (n * 10 + (x - 48)) xs c
+-- one digit more, where all that are too large are told as the largest
+abbrev pub step : ℕ → ℕ → ℕ
+step n c = min 4294967295 (n * 10 + (c - 48))
 
--- one digit more
-pub digits_more : (s : List ℕ) (i : ℕ) → i < length s → AllByRecursion Digit (take i s) → Digit (get_or s i 0) → AllByRecursion Digit (take (i + 1) s)
-digits_more s i l d h = All-more Digit s i 0 l d h
-
-pub told_more : (s : List ℕ) (i n : ℕ) → i < length s → n ≡ told (take i s) → min 4294967295 (n * 10 + (get_or s i 0 - 48)) ≡ told (take (i + 1) s)
-told_more s i n l e = rw (take_more s i 0 l, read_on_push 0 (take i s) (get_or s i 0)) (omega arith)
+pub told_by_steps : (ds : List ℕ) (n : ℕ) → fold step (min 4294967295 n) ds ≡ min 4294967295 (read_on n ds)
+told_by_steps [] n = refl
+told_by_steps (c ∷ cs) n =
+    let e : step (min 4294967295 n) c ≡ min 4294967295 (n * 10 + (c - 48)) = omega arith in
+    ap (λ m. fold step m cs) e ∙ told_by_steps cs (n * 10 + (c - 48))
 
 -- digits up to what is none can be split off in one way only
 pub unique : (xs ys a b : List ℕ) → AllByRecursion Digit xs → AllByRecursion Digit ys → Stop a → Stop b → xs ++ a ≡ ys ++ b → (xs ≡ ys) × (a ≡ b)
@@ -32,36 +29,11 @@ unique (x ∷ xs) (y ∷ ys) a b dx dy sa sb e =
     let r = unique xs ys a b dx.1 dy.1 sa sb t in
     (cc r.0, r.1)
 
-only : (s : List ℕ) (e : ℕ) (ds rest : List ℕ) → AllByRecursion Digit (take e s) → Stop (drop e s) → AllByRecursion Digit ds → Stop rest → s ≡ ds ++ rest → (take e s ≡ ds) × (drop e s ≡ rest)
-only s e ds rest d st dd sr q = unique (take e s) ds (drop e s) rest d dd st sr (take-append-drop e s ∙ q)
-
-pub stop_here : (s : List ℕ) (e : ℕ) → e < length s → (Digit (get_or s e 0) → ⊥) → Stop (drop e s)
-stop_here s e l h = subst Stop (sym (drop_more s e 0 l)) h
-
-pub stop_end : (s : List ℕ) (e : ℕ) → length s ≤ e → Stop (drop e s)
-stop_end s e l = subst Stop (sym (drop_all e s l)) tt
-
--- where no digit is in front there is no numeral
-pub none_first : (s ds rest : List ℕ) → Stop s → Numeral ds → Stop rest → s ≡ ds ++ rest → ⊥
-none_first s ds rest st p sr q = let h = unique [] ds s rest tt p.digits st sr q in omega (arith, ap length h.0, p.some)
-
--- nor where a zero is in front of other digits
-pub zero_first : (s : List ℕ) (e : ℕ) → e ≤ length s → 1 < e → get_or s 0 0 ≡ 48 → AllByRecursion Digit (take e s) → Stop (drop e s) → (ds rest : List ℕ) → Numeral ds → Stop rest → s ≡ ds ++ rest → ⊥
-zero_first s e l m z d st ds rest p sr q =
-    let h = only s e ds rest d st p.digits sr q in
-    omega (arith, length-take-le e s l, ap length h.0, p.first (ap (λ xs. get_or xs 0 0) (sym h.0) ∙ get_or-take e s 0 0 (omega arith) ∙ z))
-
-pub found_by : (s : List ℕ) (n e : ℕ) → e ≤ length s → AllByRecursion Digit (take e s) → n ≡ told (take e s) → Stop (drop e s) → 0 < e → (get_or s 0 0 ≡ 48 → e ≡ 1) → Found s n e
-found_by s n e l d v st p f = record {
-  within = l;
-  numeral = record {
-    digits = d;
-    some = omega (arith, length-take-le e s l);
-    first = λ z. length-take-le e s l ∙ f (sym (get_or-take e s 0 0 p) ∙ z);
-  };
-  stop = st;
-  number = v;
-}
+-- so a numeral in front is all the digits that are there
+pub only_numeral : (s front : List ℕ) (e : ℕ) → front ≡ take e s → AllByRecursion Digit (take e s) → Stop (drop e s) → (ds rest : List ℕ) → Numeral ds → Stop rest → s ≡ ds ++ rest → Numeral front
+only_numeral s front e is d st ds rest p sr q =
+    let h = unique (take e s) ds (drop e s) rest d p.digits st sr (take-append-drop e s ∙ q) in
+    subst Numeral (sym (is ∙ h.0)) p
 
 own : IsNumeralModel (AllByRecursion Digit) value
 own = numerals_by_fold (AllByRecursion Digit) (search rules) read_on (search rules)

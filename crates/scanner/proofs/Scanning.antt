@@ -1,9 +1,8 @@
 -- How far a line is read along a template.
-use Rattle.std.proofs.Common.{◌≡◌, ℕ, ◌+◌, ◌<◌, ◌≤◌, true, false, List, [], ◌∷◌, ◌++◌, map, length, get_or, take, drop, set, replicate, Some, None, sym, refl, ap, ◌∙◌, subst, append_assoc, append-nil, arith, length-set, take-append-drop}
-use lib.ListN.{length-replicate}
+use Rattle.std.proofs.Common.{◌≡◌, ℕ, ◌+◌, ◌<◌, ◌≤◌, true, false, List, [], ◌∷◌, ◌++◌, map, length, get_or, take, drop, set, Some, None, sym, refl, ap, ◌∙◌, subst, append_assoc, append-nil, arith, take-append-drop}
 use Rattle.std.specs.List.{AllByRecursion}
 use Rattle.std.proofs.ByRecursion.{All-push}
-use Rattle.std.proofs.lemmas.List.{length_push, map_push, take_more_set, take_all, drop_more, drop_all, drop-drop, length-drop}
+use Rattle.std.proofs.lemmas.List.{length_push, map_push, take_more_set, take_all, drop_more, drop_all}
 use Rattle.std.proofs.lemmas.Bool.{eq-eqb, ne_eqb}
 use Rattle.scanner.specs.Numerals.{Numeral, told, Stop, Found, Begins}
 use Rattle.scanner.specs.Templates.{gap, gaps, fill, Filled, clear, Scans}
@@ -128,65 +127,32 @@ module _ {t line later rest ns : List ℕ} {k : ℕ} (s : Sofar t line later res
     gaps_missing : (n : ℕ) → gaps t ≡ n → (k ≡ n → ⊥) → ⊥
     gaps_missing n e ne = ne (omega (arith, s.left, ap gaps done))
 
--- n places for numbers, k of them written; i bytes of the template and `at` bytes of the line are read
-pub record At (t line : List ℕ) (n i : ℕ) (ns : List ℕ) (at k : ℕ) : Type 0 where
-  pub within : at ≤ length line
-  pub places : length ns ≡ n
-  pub so_far : Sofar t line (drop i t) (drop at line) ns k
-
-pub at_start : (t line : List ℕ) (n : ℕ) → At t line n 0 (replicate n 0) 0 0
-at_start t line n = record { within = omega arith; places = length-replicate n 0; so_far = begin t line (replicate n 0) }
-
-pub at_same : (t line : List ℕ) (n i : ℕ) (ns ms : List ℕ) (at a k l : ℕ) → ns ≡ ms → at ≡ a → k ≡ l → At t line n i ms a l → At t line n i ns at k
-at_same t line n i ns ms at a k l p q r h = subst (λ xs. At t line n i xs at k) (sym p) (subst (λ x. At t line n i ms x k) (sym q) (subst (At t line n i ms a) (sym r) h))
-
-module _ (t line : List ℕ) (n i : ℕ) (ns : List ℕ) (at k : ℕ) (h : At t line n i ns at k) where
-  -- `part` is what is still to come of the line
+-- i bytes of the template are read, and `rest` is to come of the line
+module _ (t line : List ℕ) (i : ℕ) (rest ns : List ℕ) (k : ℕ) (s : Sofar t line (drop i t) rest ns k) where
   module _ (here : i < length t) (is-gap : get_or t i 0 ≡ 35) where
     abbrev next_gap : drop i t ≡ get_or t i 0 ∷ drop (i + 1) t
     next_gap = drop_more t i 0 here
 
-    pub at_numeral : (part : List ℕ) (v e : ℕ) → part ≡ drop at line → k < n → Found part v e → At t line n (i + 1) (set ns k v) (at + e) (k + 1)
-    at_numeral part v e part-is room found =
-        let f = subst (λ l. Found l v e) part-is found in
-        record {
-          within = omega (arith, f.within, h.within, length-drop at line);
-          places = length-set ns k v ∙ h.places;
-          so_far = subst (λ l. Sofar t line (drop (i + 1) t) l (set ns k v) (k + 1)) (drop-drop e at line) (numeral_read h.so_far (get_or t i 0) (drop (i + 1) t) next_gap (eq-eqb _ _ is-gap) v e (omega (arith, h.places)) f);
-        }
+    pub at_numeral : (v e : ℕ) (behind : List ℕ) → behind ≡ drop e rest → k < length ns → Found rest v e → Sofar t line (drop (i + 1) t) behind (set ns k v) (k + 1)
+    at_numeral v e behind is room found =
+        subst (λ l. Sofar t line (drop (i + 1) t) l (set ns k v) (k + 1)) (sym is) (numeral_read s (get_or t i 0) (drop (i + 1) t) next_gap (eq-eqb _ _ is-gap) v e room found)
 
-    pub no_numeral : (part : List ℕ) → part ≡ drop at line → Begins part None → Scans n t line None
-    no_numeral part part-is none _ c = numeral_missing h.so_far (get_or t i 0) (drop (i + 1) t) next_gap (eq-eqb _ _ is-gap) (subst (λ l. Begins l None) part-is none) c
-
-    pub no_room : n ≤ k → Scans n t line None
-    no_room full e c ds f = room_missing h.so_far (get_or t i 0) (drop (i + 1) t) next_gap (eq-eqb _ _ is-gap) n e full
+    pub no_numeral : (n : ℕ) → Begins rest None → Scans n t line None
+    no_numeral n none _ c = numeral_missing s (get_or t i 0) (drop (i + 1) t) next_gap (eq-eqb _ _ is-gap) none c
 
   module _ (here : i < length t) (no_gap : get_or t i 0 ≡ 35 → ⊥) where
     abbrev next_byte : drop i t ≡ get_or t i 0 ∷ drop (i + 1) t
     next_byte = drop_more t i 0 here
 
-    pub at_byte : at < length line → get_or line at 0 ≡ get_or t i 0 → At t line n (i + 1) ns (at + 1) k
-    at_byte more same = record {
-      within = omega arith;
-      places = h.places;
-      so_far = byte_read h.so_far (get_or t i 0) (drop (i + 1) t) next_byte (ne_eqb _ _ no_gap) (drop (at + 1) line) (drop_more line at 0 more ∙ ap (λ b. b ∷ drop (at + 1) line) same);
-    }
-
-    pub no_byte : (at < length line → get_or line at 0 ≡ get_or t i 0 → ⊥) → Scans n t line None
-    no_byte none _ c = byte_missing h.so_far (get_or t i 0) (drop (i + 1) t) next_byte (ne_eqb _ _ no_gap) behind c
-      where
-        behind : (r : List ℕ) → drop at line ≡ get_or t i 0 ∷ r → ⊥
-        behind r e =
-            let more : at < length line = omega (arith, ap length e, length-drop at line) in
-            let f : get_or line at 0 ∷ drop (at + 1) line ≡ get_or t i 0 ∷ r = sym (drop_more line at 0 more) ∙ e in
-            none more cc
+    pub at_byte : (behind : List ℕ) → rest ≡ get_or t i 0 ∷ behind → Sofar t line (drop (i + 1) t) behind ns k
+    at_byte behind is = byte_read s (get_or t i 0) (drop (i + 1) t) next_byte (ne_eqb _ _ no_gap) behind is
 
   module _ (done : length t ≤ i) where
-    pub all_read : at ≡ length line → k ≡ n → Scans n t line (Some ns)
-    all_read whole full = line_read h.so_far (drop_all i t done) (drop_all at line (omega arith)) (h.places ∙ sym full)
+    pub all_read : rest ≡ [] → length ns ≡ k → Scans k t line (Some ns)
+    all_read = line_read s (drop_all i t done)
 
-    pub more_left : (at ≡ length line → ⊥) → Scans n t line None
-    more_left some _ c = line_longer h.so_far (drop_all i t done) (λ e. some (omega (arith, ap length e, length-drop at line, h.within))) c
+    pub more_left : (n : ℕ) → (rest ≡ [] → ⊥) → Scans n t line None
+    more_left n some _ c = line_longer s (drop_all i t done) some c
 
-    pub fewer_gaps : (k ≡ n → ⊥) → Scans n t line None
-    fewer_gaps ne e c ds f = gaps_missing h.so_far (drop_all i t done) n e ne
+    pub fewer_gaps : (n : ℕ) → (k ≡ n → ⊥) → Scans n t line None
+    fewer_gaps n ne e c ds f = gaps_missing s (drop_all i t done) n e ne

@@ -1,20 +1,9 @@
 -- The first line of a text.
-use Rattle.std.proofs.Common.{◌≡◌, ℕ, suc, ◌+◌, ◌-◌, ◌<◌, ◌≤◌, true, false, not, ◌⊎◌, List, [], ◌∷◌, length, get_or, take, drop, sym, ap, ◌∙◌, inl, inr, one-add, arith}
+use Rattle.std.proofs.Common.{◌≡◌, ℕ, suc, ◌+◌, ◌-◌, ◌<◌, ◌≤◌, true, false, ◌⊎◌, List, [], ◌∷◌, length, take, drop, sym, ap, ◌∙◌, inl, inr, one-add, arith}
 use Rattle.std.proofs.lemmas.List.{drop_all, length-drop, take_all}
-use Rattle.std.proofs.lemmas.List.Sums.{prefix_len-drop_yes, prefix_len-drop_no, prefix_len-drop_all, prefix_len-le-length}
-use Rattle.std.proofs.lemmas.Bool.{cases_Bool, cases_lt, cond-true, cond-false, eq-eqb, ne_eqb}
+use Rattle.std.proofs.lemmas.List.Sums.{prefix_len-le-length}
+use Rattle.std.proofs.lemmas.Bool.{cases_Bool, cases_lt, cond-true, cond-false}
 use Rattle.scanner.specs.Lines.{inside, width, next_line, in_front, lines_of}
-
--- how far the first line goes
-module _ (text : List ℕ) (i : ℕ) (so_far : width text ≡ i + width (drop i text)) where
-  pub longer : i < length text → (get_or text i 0 ≡ 10 → ⊥) → width text ≡ i + 1 + width (drop (i + 1) text)
-  longer here other = omega (arith, so_far, prefix_len-drop_yes inside text i 0 here (ap not (ne_eqb (get_or text i 0) 10 other)))
-
-  pub ends : i < length text → get_or text i 0 ≡ 10 → i ≡ width text
-  ends here e = omega (arith, so_far, prefix_len-drop_no inside text i 0 here (ap not (eq-eqb (get_or text i 0) 10 e)))
-
-  pub ends_all : length text ≤ i → i ≤ length text → length text ≡ width text
-  ends_all all within = omega (arith, so_far, prefix_len-drop_all inside text i all)
 
 -- the lines of a text from its first line on
 abbrev parted : List ℕ → List (List ℕ)

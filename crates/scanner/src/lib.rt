@@ -1,7 +1,7 @@
 // Reads lines that a template writes: bytes that stand as they are, with numerals between them.
 #![tactic(auto)]
 
-ghost use Rattle.std.specs.Prelude.{◌≡◌, ℕ, ◌<◌, true, List, length, MatchBool, ◌≢◌, slice_index};
+ghost use Rattle.std.specs.Prelude.{◌≡◌, ℕ, true, List};
 ghost use Rattle.scanner.specs.Templates.{Filled, clear, Scans};
 
 mod lines;
@@ -9,50 +9,37 @@ mod numbers;
 mod numerals;
 mod tokens;
 
-pub use lines::first_line;
+pub use lines::{Lines, first_line};
 pub use numbers::{NumberToken, numeral};
-use numerals::number;
 pub use tokens::Token;
+use tokens::after;
 
 // The byte of a template that stands for a numeral.
 const GAP: u8 = b'#';
-
-// Whether the byte stands at that place of the line.
-fn stands(line: &[u8], at: usize, byte: u8) -> bool
-    ensures { MatchBool result ((at < length line.now) × (slice_index line.now at ≡ byte)) (at < length line.now → slice_index line.now at ≢ byte) }
-{
-    at < line.len() && line[at] == byte
-}
 
 // The numbers of a line that the template writes, one for each of its N gaps; one that is too large for 32 bits is told
 // as the largest.
 pub fn scan<const N: usize>(line: &[u8], template: &[u8]) -> Option<[u32; N]>
     ensures { Scans N template.now line.now result }
 {
+    // There is no heap here, so an array takes the numbers, and the count of them stands beside it.
     let mut numbers = [0; N];
     let mut count = 0;
-    let mut at = 0;
+    let mut rest = line;
     for byte in template {
         if *byte == GAP {
             if count >= N {
                 return None;
             }
-            match number(&line[at..]) {
-                Some((value, length)) => {
-                    numbers[count] = value;
-                    count += 1;
-                    at += length;
-                }
-                None => return None,
-            }
+            let token = numeral(rest)?;
+            numbers[count] = token.value;
+            count += 1;
+            rest = token.digits.rest;
         } else {
-            if !stands(line, at, *byte) {
-                return None;
-            }
-            at += 1;
+            rest = after(rest, *byte)?;
         }
     }
-    if at == line.len() && count == N {
+    if rest.is_empty() && count == N {
         Some(numbers)
     } else {
         None

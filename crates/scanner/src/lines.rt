@@ -1,5 +1,6 @@
 // The lines of a text. Lines end with byte 10; the last may lack it.
 ghost use Rattle.std.specs.Prelude.{◌≡◌, ◌<◌, ◌≤◌, ◌∷◌, length};
+ghost use Rattle.std.specs.Iterator.{YieldsFirstBy, item_count};
 ghost use Rattle.scanner.specs.Tokens.{Cut};
 ghost use Rattle.scanner.specs.Lines.{width, next_line, lines_of};
 
@@ -12,12 +13,7 @@ fn line_width(text: &[u8]) -> usize
     ensures value { result ≡ width text.now }
     ensures bound { result ≤ length text.now }
 {
-    for (i, byte) in text.iter().enumerate() {
-        if *byte == LINE_END {
-            return i;
-        }
-    }
-    text.len()
+    text.iter().take_while(|byte| **byte != LINE_END).count()
 }
 
 // The first line of the text, without its end, and the rest from the next line on. Of no bytes both are none.
@@ -31,5 +27,36 @@ pub fn first_line(text: &[u8]) -> Token<'_>
     Token {
         bytes: &text[0..end],
         rest: &text[next..],
+    }
+}
+
+// The lines of a text, one after the other, as parts of the bytes that were lent.
+#[derive(Drop)]
+pub struct Lines<'a> {
+    rest: &'a [u8],
+}
+
+impl<'a> Lines<'a> {
+    pub fn of(text: &'a [u8]) -> Lines<'a>
+        ensures { result.rest.now ≡ text.now }
+    {
+        Lines { rest: text }
+    }
+}
+
+impl<'a> Iterator for Lines<'a> {
+    type Item = &'a [u8];
+
+    ghost next_gives = { YieldsFirstBy (λ line. line.now) (λ s. lines_of s.rest.now) };
+
+    ghost remaining = { item_count (λ s. lines_of s.rest.now) };
+
+    fn next(&mut self) -> Option<&'a [u8]> {
+        if self.rest.is_empty() {
+            return None;
+        }
+        let line = first_line(self.rest);
+        self.rest = line.rest;
+        Some(line.bytes)
     }
 }

@@ -1,47 +1,28 @@
 // Numerals: digits of base ten, with no needless zero in front.
-ghost use Rattle.std.specs.Prelude.{◌≡◌, ◌+◌, ◌-◌, ◌*◌, ◌<◌, ◌≤◌, min, length, drop, MatchBool, slice_index};
-ghost use Rattle.scanner.specs.Numerals.{Digit, Stop, Begins};
+ghost use Rattle.std.specs.Prelude.{◌≡◌, ◌+◌, ◌-◌, ◌*◌, ◌≤◌, min, length, take, drop};
+ghost use Rattle.std.specs.List.{AllByRecursion};
+ghost use Rattle.scanner.specs.Numerals.{Digit, Stop, told};
 
 // The number with one digit more, or the largest of 32 bits.
 fn extended(n: u32, digit: u8) -> u32
-    requires { (48 ≤ digit) × (digit ≤ 57) }
     ensures { result ≡ min 4294967295 (n * 10 + (digit - 48)) }
 {
-    n.saturating_mul(10).saturating_add(u32::from(digit - b'0'))
+    n.saturating_mul(10)
+        .saturating_add(u32::from(digit.saturating_sub(b'0')))
 }
 
-// Whether a digit stands at that place.
-fn digit_at(s: &[u8], e: usize) -> bool
-    requires { e ≤ length s.now }
-    ensures { MatchBool result ((e < length s.now) × Digit (slice_index s.now e)) (Stop (drop e s.now)) }
+// The number that the digits write, or the largest of 32 bits.
+pub fn told(digits: &[u8]) -> u32
+    ensures { result ≡ told digits.now }
 {
-    if e >= s.len() {
-        return false;
-    }
-    if s[e] < b'0' {
-        return false;
-    }
-    if s[e] > b'9' {
-        return false;
-    }
-    true
+    digits.iter().fold(0, |n, digit| extended(n, *digit))
 }
 
-// The number of the numeral at the front of s, and how long it is; or none.
-pub fn number(s: &[u8]) -> Option<(u32, usize)>
-    ensures { Begins s.now result }
+// How many digits are in front.
+pub fn digit_count(s: &[u8]) -> usize
+    ensures within { result ≤ length s.now }
+    ensures digits { AllByRecursion Digit (take result s.now) }
+    ensures stop { Stop (drop result s.now) }
 {
-    let mut e = 0;
-    let mut n: u32 = 0;
-    'digits: while digit_at(s, e) {
-        n = extended(n, s[e]);
-        e += 1;
-    }
-    if e == 0 {
-        return None;
-    }
-    if e > 1 && s[0] == b'0' {
-        return None;
-    }
-    Some((n, e))
+    s.iter().take_while(|byte| byte.is_ascii_digit()).count()
 }

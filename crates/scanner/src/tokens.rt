@@ -24,9 +24,8 @@ pub fn front(text: &[u8], size: usize) -> Token<'_>
 pub fn after(text: &[u8], byte: u8) -> Option<&[u8]>
     ensures { Begun text.entry byte result }
 {
-    if text.len() > 0 && text[0] == byte {
-        Some(&text[1..])
-    } else {
-        None
+    match text {
+        [first, rest @ ..] if *first == byte => Some(rest),
+        _ => None,
     }
 }

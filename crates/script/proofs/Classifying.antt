@@ -1,9 +1,7 @@
 -- Lines by their length and their form, and the machine by them.
-use Rattle.std.proofs.Common.{◌≡◌, ℕ, ◌<◌, ◌≤◌, Bool, true, false, ltb, List, length, Some, None, Ok, Err, Option, Result, sym, refl, ap, ◌∙◌}
-use Rattle.std.proofs.lemmas.Bool.{lt-ltb, le-ltb}
+use Rattle.std.proofs.Common.{◌≡◌, ℕ, Bool, true, false, ltb, List, length, Some, None, Option, Result, sym, refl, ap, ◌∙◌}
 use Rattle.machine.specs.declared.forms.Form.{Form}
 use Rattle.machine.specs.declared.forms.ScriptRefusal.{ScriptRefusal}
-use Rattle.machine.specs.declared.forms.ScriptRefusal.TheVariants.{TooLong, Malformed}
 use Rattle.machine.specs.Machine.{Machine}
 use Rattle.machine.specs.Reading.{read_form}
 use Rattle.machine.specs.Script.{line_by, read_line}
@@ -20,16 +18,6 @@ line_applied false (Some f) m = sym (capped_form f m)
 module _ (line : List ℕ) where
   pub read_applied : (m : Machine) → read_line line m ≡ applied (reading line) m
   read_applied m = line_applied (ltb 120 (length line)) (read_form line) m
-
-  pub reading_long : 120 < length line → Err TooLong ≡ reading line
-  reading_long h = sym (ap (λ v. reading_by v (told_of (read_form line))) (lt-ltb 120 (length line) h))
-
-  module _ (h : length line ≤ 120) where
-    pub reading_form : (f : Form) → Some f ≡ told_of (read_form line) → Ok f ≡ reading line
-    reading_form f e = ap (reading_by false) e ∙ sym (ap (λ v. reading_by v (told_of (read_form line))) (le-ltb 120 (length line) h))
-
-    pub reading_none : None ≡ told_of (read_form line) → Err Malformed ≡ reading line
-    reading_none e = ap (reading_by false) e ∙ sym (ap (λ v. reading_by v (told_of (read_form line))) (le-ltb 120 (length line) h))
 
   -- so with any reading that is the line's
   pub with_machine : (r : Result Form ScriptRefusal) → r ≡ reading line → (m : Machine) → read_line line m ≡ applied r m

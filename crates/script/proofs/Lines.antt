@@ -1,5 +1,5 @@
 -- The lines of a script are the lines of a text.
-use Rattle.std.proofs.Common.{◌≡◌, ℕ, Bool, true, false, cond, not, eqb, List, [], ◌∷◌, sym, refl, ap, ◌∙◌}
+use Rattle.std.proofs.Common.{◌≡◌, ℕ, Bool, true, false, cond, not, eqb, List, [], ◌∷◌, refl, ap, ◌∙◌}
 use Rattle.scanner.specs.Lines.{in_front, lines_of}
 use Rattle.machine.specs.Script.{first_longer, script_lines}
 
@@ -14,7 +14,3 @@ same_by false b ls ms e = same_front b ls ∙ ap (in_front b) e
 pub same_lines : (script : List ℕ) → script_lines script ≡ lines_of script
 same_lines [] = refl
 same_lines (b ∷ bs) = same_by (eqb b 10) b (script_lines bs) (lines_of bs) (same_lines bs)
-
--- so a script's lines are its first one and those of the rest
-pub script_split : (script line rest : List ℕ) → lines_of script ≡ line ∷ lines_of rest → script_lines script ≡ line ∷ script_lines rest
-script_split script line rest e = same_lines script ∙ e ∙ ap (λ ls. line ∷ ls) (sym (same_lines rest))

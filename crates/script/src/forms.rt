@@ -13,11 +13,10 @@ use scanner::scan;
 fn read_station(line: &[u8]) -> Option<Form>
     ensures { result ≡ told_of (first_of (station_shape ∷ []) line.now) }
 {
-    let numbers = scan::<5>(
+    let [station, benches, takes, holds, next] = scan::<5>(
         line,
         b"(station # (benches #) (takes #) (holds #) (next #))",
     )?;
-    let [station, benches, takes, holds, next] = numbers;
     Some(Form::Station {
         station,
         benches,
@@ -30,8 +29,10 @@ fn read_station(line: &[u8]) -> Option<Form>
 fn read_last_station(line: &[u8]) -> Option<Form>
     ensures { result ≡ told_of (first_of (last_station_shape ∷ []) line.now) }
 {
-    let numbers = scan::<4>(line, b"(station # (benches #) (takes #) (holds #) (last))")?;
-    let [station, benches, takes, holds] = numbers;
+    let [station, benches, takes, holds] = scan::<4>(
+        line,
+        b"(station # (benches #) (takes #) (holds #) (last))",
+    )?;
     Some(Form::Station {
         station,
         benches,
@@ -44,8 +45,10 @@ fn read_last_station(line: &[u8]) -> Option<Form>
 fn read_order(line: &[u8]) -> Option<Form>
     ensures { result ≡ told_of (first_of (order_shape ∷ []) line.now) }
 {
-    let numbers = scan::<5>(line, b"(order # (at #) (urgency #) (due #) (start #))")?;
-    let [order, at, urgency, due, start] = numbers;
+    let [order, at, urgency, due, start] = scan::<5>(
+        line,
+        b"(order # (at #) (urgency #) (due #) (start #))",
+    )?;
     Some(Form::Order {
         order,
         at,
@@ -58,24 +61,21 @@ fn read_order(line: &[u8]) -> Option<Form>
 fn read_withdrawal(line: &[u8]) -> Option<Form>
     ensures { result ≡ told_of (first_of (withdraw_shape ∷ []) line.now) }
 {
-    let numbers = scan::<2>(line, b"(withdraw # (at #))")?;
-    let [order, at] = numbers;
+    let [order, at] = scan::<2>(line, b"(withdraw # (at #))")?;
     Some(Form::Withdraw { order, at })
 }
 
 fn read_closing(line: &[u8]) -> Option<Form>
     ensures { result ≡ told_of (first_of (close_shape ∷ []) line.now) }
 {
-    let numbers = scan::<3>(line, b"(close # (at #) (into #))")?;
-    let [station, at, into] = numbers;
+    let [station, at, into] = scan::<3>(line, b"(close # (at #) (into #))")?;
     Some(Form::Close { station, at, into })
 }
 
 fn read_end(line: &[u8]) -> Option<Form>
     ensures { result ≡ told_of (first_of (end_shape ∷ []) line.now) }
 {
-    let numbers = scan::<1>(line, b"(end #)")?;
-    let [at] = numbers;
+    let [at] = scan::<1>(line, b"(end #)")?;
     Some(Form::End { at })
 }
 
@@ -85,11 +85,11 @@ pub fn read_form(line: &[u8]) -> Option<Form>
     ensures told { Tells line.now result }
 {
     read_station(line)
-        .or(read_last_station(line))
-        .or(read_order(line))
-        .or(read_withdrawal(line))
-        .or(read_closing(line))
-        .or(read_end(line))
+        .or_else(|| read_last_station(line))
+        .or_else(|| read_order(line))
+        .or_else(|| read_withdrawal(line))
+        .or_else(|| read_closing(line))
+        .or_else(|| read_end(line))
 }
 
 const LONGEST_LINE: usize = 120;
@@ -104,10 +104,7 @@ pub fn read_line(line: &[u8]) -> Result<Form, ScriptRefusal>
     if line.len() > LONGEST_LINE {
         return Err(ScriptRefusal::TooLong);
     }
-    match read_form(line) {
-        Some(form) => Ok(form),
-        None => Err(ScriptRefusal::Malformed),
-    }
+    read_form(line).ok_or(ScriptRefusal::Malformed)
 }
 
 // Whether the script has more bytes than are read.

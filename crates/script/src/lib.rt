@@ -1,5 +1,5 @@
 // Reads the lines of scripts: the forms that they tell, and the limits that the stations among them set. A script is cut
-// into its lines by `scanner::first_line`.
+// into its lines by `scanner::Lines`.
 #![tactic(auto)]
 
 mod forms;

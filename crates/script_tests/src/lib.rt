@@ -4,103 +4,76 @@
 #[cfg(test)]
 mod tests {
     use machine::Form;
-    use scanner::first_line;
+    use scanner::{Lines, first_line};
     use script::{read_form, read_line, script_limits, too_long};
-    use std::test::Fail;
 
     // The number of the line's refusal, or 0 where it tells a form.
     fn refusal(line: &[u8]) -> u8 {
-        match read_line(line) {
-            Ok(_) => 0,
-            Err(refusal) => refusal.number(),
-        }
-    }
-
-    // The tick of an end form, or none.
-    fn end(line: &[u8]) -> Option<u32> {
-        match read_form(line) {
-            Some(Form::End { at }) => Some(at),
-            _ => None,
-        }
+        read_line(line).err().map_or(0, |refusal| refusal.number())
     }
 
     // Whether every line of the text is none of the forms.
     fn all_malformed(text: &[u8]) -> bool {
-        let mut rest = text;
-        'lines: while !rest.is_empty() {
-            let line = first_line(rest);
-            if refusal(line.bytes) != 4 {
-                return false;
-            }
-            rest = line.rest;
+        Lines::of(text).all(|line| refusal(line) == 4)
+    }
+
+    #[test]
+    fn stations_are_read(rt: HostRuntime) {
+        assert_eq!(rt;
+            read_form(b"(station 1 (benches 2) (takes 3) (holds 4) (next 5))"),
+            Some(Form::Station {
+                station: 1,
+                benches: 2,
+                takes: 3,
+                holds: 4,
+                next: Some(5),
+            })
+        );
+        assert_eq!(rt;
+            read_form(b"(station 31 (benches 8) (takes 1000000) (holds 4096) (last))"),
+            Some(Form::Station {
+                station: 31,
+                benches: 8,
+                takes: 1_000_000,
+                holds: 4096,
+                next: None,
+            })
+        );
+    }
+
+    #[test]
+    fn orders_are_read(rt: HostRuntime) {
+        assert_eq!(rt;
+            read_form(b"(order 1 (at 2) (urgency 3) (due 4) (start 5))"),
+            Some(Form::Order {
+                order: 1,
+                at: 2,
+                urgency: 3,
+                due: 4,
+                start: 5,
+            })
+        );
+    }
+
+    #[test]
+    fn other_forms_are_read(rt: HostRuntime) {
+        for (line, form) in [
+            (
+                b"(withdraw 7 (at 8))".as_slice(),
+                Form::Withdraw { order: 7, at: 8 },
+            ),
+            (
+                b"(close 0 (at 4) (into 1))",
+                Form::Close {
+                    station: 0,
+                    at: 4,
+                    into: 1,
+                },
+            ),
+            (b"(end 9)", Form::End { at: 9 }),
+        ] {
+            assert_eq!(rt; read_form(line), Some(form));
         }
-        true
-    }
-
-    #[test]
-    fn stations_are_read(rt: HostRuntime) -> Result<(), Fail> {
-        let Some(
-            Form::Station {
-                station,
-                benches,
-                takes,
-                holds,
-                next,
-            },
-        ) = read_form(b"(station 1 (benches 2) (takes 3) (holds 4) (next 5))")
-        else {
-            return Err(Fail::new("no station"));
-        };
-        assert_eq!(rt; (station, benches, takes), (1, 2, 3));
-        assert_eq!(rt; (holds, next), (4, Some(5)));
-        let Some(
-            Form::Station {
-                station,
-                benches,
-                takes,
-                holds,
-                next,
-            },
-        ) = read_form(b"(station 31 (benches 8) (takes 1000000) (holds 4096) (last))")
-        else {
-            return Err(Fail::new("no last station"));
-        };
-        assert_eq!(rt; (station, benches, takes), (31, 8, 1_000_000));
-        assert_eq!(rt; (holds, next), (4096, None));
-        Ok(())
-    }
-
-    #[test]
-    fn orders_are_read(rt: HostRuntime) -> Result<(), Fail> {
-        let Some(
-            Form::Order {
-                order,
-                at,
-                urgency,
-                due,
-                start,
-            },
-        ) = read_form(b"(order 1 (at 2) (urgency 3) (due 4) (start 5))")
-        else {
-            return Err(Fail::new("no order"));
-        };
-        assert_eq!(rt; (order, at, urgency), (1, 2, 3));
-        assert_eq!(rt; (due, start), (4, 5));
-        Ok(())
-    }
-
-    #[test]
-    fn other_forms_are_read(rt: HostRuntime) -> Result<(), Fail> {
-        let Some(Form::Withdraw { order, at }) = read_form(b"(withdraw 7 (at 8))") else {
-            return Err(Fail::new("no withdrawal"));
-        };
-        assert_eq!(rt; (order, at), (7, 8));
-        let Some(Form::Close { station, at, into }) = read_form(b"(close 0 (at 4) (into 1))") else {
-            return Err(Fail::new("no closing"));
-        };
-        assert_eq!(rt; (station, at, into), (0, 4, 1));
-        assert_eq!(rt; end(b"(end 9)"), Some(9));
-        Ok(())
     }
 
     #[test]
@@ -142,7 +115,7 @@ mod tests {
 
     #[test]
     fn numerals_have_no_needless_zero(rt: HostRuntime) {
-        assert_eq!(rt; end(b"(end 0)"), Some(0));
+        assert_eq!(rt; read_form(b"(end 0)"), Some(Form::End { at: 0 }));
         assert_eq!(rt; refusal(b"(end 07)"), 4);
         assert!(rt;
             all_malformed(
@@ -153,13 +126,17 @@ mod tests {
 
     #[test]
     fn large_numbers_are_told_as_the_largest(rt: HostRuntime) {
-        assert_eq!(rt; end(b"(end 4294967294)"), Some(4_294_967_294));
-        assert_eq!(rt; end(b"(end 4294967295)"), Some(4_294_967_295));
-        assert_eq!(rt; end(b"(end 4294967296)"), Some(4_294_967_295));
-        assert_eq!(rt;
-            end(b"(end 1234567890123456789012345678901234567890)"),
-            Some(4_294_967_295)
-        );
+        for (line, at) in [
+            (b"(end 4294967294)".as_slice(), 4_294_967_294),
+            (b"(end 4294967295)", 4_294_967_295),
+            (b"(end 4294967296)", 4_294_967_295),
+            (
+                b"(end 1234567890123456789012345678901234567890)",
+                4_294_967_295,
+            ),
+        ] {
+            assert_eq!(rt; read_form(line), Some(Form::End { at }));
+        }
         assert_eq!(rt;
             refusal(b"(end 1234567890123456789012345678901234567890)"),
             0,

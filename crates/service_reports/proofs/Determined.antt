@@ -4,7 +4,7 @@ use Rattle.elements.specs.declared.lines.LineEntry.{LineEntry}
 use Rattle.stores.specs.declared.refusals.Refusal.{Refusal}
 use Rattle.stores.specs.declared.refusals.Refusal.TheVariants.{QueueNumber, SameQueue, AtLimit, NoCell, NoStamp, NotQueued}
 use Rattle.waiting_orders.specs.Forms.{unreadable_number}
-use Rattle.waiting_orders.specs.Lines.{lines_of}
+use Rattle.scanner.specs.Lines.{lines_of}
 use Rattle.waiting_orders.proofs.Listing.{listed_once, listed_not_broken, broken_once}
 use Rattle.dispatch.specs.declared.Rejected.{Rejected}
 use Rattle.dispatch.specs.Dispatching.{Enough, Lacks}

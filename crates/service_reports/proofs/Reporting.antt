@@ -6,7 +6,8 @@ use Rattle.elements.specs.Elements.{line_le}
 use Rattle.stores.specs.Meaning.{Meaning}
 use Rattle.waiting_orders.specs.declared.ReadFailure.{ReadFailure}
 use Rattle.waiting_orders.specs.declared.ReadFailure.TheVariants.{Line, NoMemory}
-use Rattle.waiting_orders.specs.Lines.{lines_of, Listed, Unlisted}
+use Rattle.scanner.specs.Lines.{lines_of}
+use Rattle.waiting_orders.specs.Lines.{Listed, Unlisted}
 use Rattle.dispatch.specs.declared.Failure.{Failure}
 use Rattle.dispatch.specs.declared.Failure.TheVariants.{Refused, NoMemory}
 use Rattle.dispatch.specs.Service.{service_order}

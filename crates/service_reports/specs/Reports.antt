@@ -8,7 +8,8 @@ use Rattle.waiting_orders.specs.declared.Unreadable.{Unreadable}
 use Rattle.waiting_orders.specs.declared.ReadFailure.{ReadFailure}
 use Rattle.waiting_orders.specs.declared.ReadFailure.TheVariants.{Line, NoMemory}
 use Rattle.waiting_orders.specs.Forms.{unreadable_number}
-use Rattle.waiting_orders.specs.Lines.{lines_of, Listed, Broken}
+use Rattle.scanner.specs.Lines.{lines_of}
+use Rattle.waiting_orders.specs.Lines.{Listed, Broken}
 use Rattle.dispatch.specs.declared.Rejected.{Rejected}
 use Rattle.dispatch.specs.declared.Failure.{Failure}
 use Rattle.dispatch.specs.declared.Failure.TheVariants.{Refused, NoMemory}

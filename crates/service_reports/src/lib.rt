@@ -8,11 +8,11 @@ ghost use Rattle.service_reports.specs.Reports.{Unread, Unserved, Countable, Tol
 
 mod texts;
 
-use dispatch::{Failure, order_of_service};
+use dispatch::{Failure, Rejected, order_of_service};
 use elements::LineEntry;
 use std::alloc::{AllocError, Global};
 use stores::Agenda;
-use texts::{refused_line, refused_order, service_text};
+use texts::service_text;
 use waiting_orders::{ReadFailure, read_orders};
 
 // What is printed where a text is not read.
@@ -20,7 +20,9 @@ fn unread_text(failure: ReadFailure, heap: Global) -> Result<String, AllocError>
     ensures { IfOk result (λ s. Unread failure (string_bytes s)) }
 {
     match failure {
-        ReadFailure::Line { number, why } => refused_line(why.number(), number, heap),
+        ReadFailure::Line { number, why } => {
+            format!(in heap; "(refused {} (line {number}))\n", why.number())
+        }
         ReadFailure::NoMemory => Err(AllocError),
     }
 }
@@ -31,10 +33,11 @@ fn unserved_text(failure: Failure, heap: Global) -> Result<String, AllocError>
     ensures { IfOk result (λ s. Unserved failure (string_bytes s)) }
 {
     match failure {
-        Failure::Refused(rejected) => {
-            let number = rejected.refusal.number();
-            let height = rejected.refusal.height();
-            refused_order(number, rejected.index + 1, height, heap)
+        Failure::Refused(Rejected { index, refusal }) => {
+            let number = refusal.number();
+            let line = index + 1;
+            let height = refusal.height();
+            format!(in heap; "(refused {number} (line {line}) (layer {height}))\n")
         }
         Failure::NoMemory => Err(AllocError),
     }
@@ -51,6 +54,7 @@ fn orders_text<A: Agenda<Item = LineEntry>>(
     ensures effect { MatchResult result (λ s. Told (A.Store.meaning line.old) orders.now (string_bytes s) (A.Store.meaning line.new)) (λ _. Untold (A.Store.meaning line.old) orders.now (A.Store.meaning line.new)) }
     ensures unused { Unused line_le (A.Store.meaning line.old) → IfOk result (λ s. Shown (A.Store.meaning line.old).fixed.cells (A.Store.meaning line.old).fixed.stamps orders.now (string_bytes s)) }
 {
+    // A failure is printed too, so there is none for `?` to hand on.
     match order_of_service(line, orders, heap) {
         Ok(served) => service_text(&served, heap),
         Err(failure) => unserved_text(failure, heap),
@@ -68,6 +72,7 @@ pub fn report<A: Agenda<Item = LineEntry>>(
     ensures effect { MatchResult result (λ s. Reported (A.Store.meaning line.old) text.now (string_bytes s) (A.Store.meaning line.new)) (λ _. Unreported (A.Store.meaning line.old) text.now (A.Store.meaning line.new)) }
     ensures unused { Unused line_le (A.Store.meaning line.old) → IfOk result (λ s. Printed (A.Store.meaning line.old).fixed.cells (A.Store.meaning line.old).fixed.stamps text.now (string_bytes s)) }
 {
+    // A failure is printed too, so there is none for `?` to hand on.
     match read_orders(text, heap) {
         Ok(orders) => orders_text(line, &orders, heap),
         Err(failure) => unread_text(failure, heap),

@@ -1,5 +1,5 @@
 -- What a table stands for after a call that changes it.
-use Rattle.std.proofs.Common.{◌≡◌, ℕ, ◌+◌, ◌<◌, Bool, cond, List, [], map, length, get_or, set, Some, None, Ok, Err, sym, refl, ap, ◌∙◌, subst, arith}
+use Rattle.std.proofs.Common.{◌≡◌, ℕ, ◌+◌, ◌<◌, Bool, cond, List, [], map, length, get_or, set, Some, None, Ok, Err, sym, refl, ap, ◌∙◌, subst, arith, ◌⊎◌, ◌≤◌, ⊎_elim}
 use Rattle.std.proofs.lemmas.List.{length-set, length-map}
 use Rattle.std.proofs.ByRecursion.{All-set}
 use Rattle.std.proofs.lemmas.Bool.{eq-eqb}
@@ -7,13 +7,13 @@ use Rattle.std.proofs.lemmas.Bool.Decides.{nat_tests}
 use Rattle.elements.specs.declared.entries.Entry.{Entry}
 use Rattle.elements.specs.Order.{Laws, precedes_by, stamp_of}
 use Rattle.elements.proofs.Strictness.{strict}
-use Rattle.stores.specs.declared.refusals.Refusal.TheVariants.{NoCell, NoStamp, NotQueued}
+use Rattle.stores.specs.declared.refusals.Refusal.TheVariants.{QueueNumber, SameQueue, NoCell, NoStamp, NotQueued}
 use Rattle.stores.specs.SortedLists.{insert, tally, without}
-use Rattle.stores.specs.Meaning.{Meaning, Sizes, live, bare_fixed}
-use Rattle.stores.specs.Calls.{put_answer, front, rest, found, cancel_answer}
+use Rattle.stores.specs.Meaning.{Meaning, Sizes, WellFormed, live, bare_fixed}
+use Rattle.stores.specs.Calls.{front, rest, found, cancel_answer}
 use Rattle.stores.specs.Promises.{Puts, Takes, Melds, Cancels}
 use Rattle.stores.proofs.Inserting.{rest_insert, without-insert, has_none, has_some, tally-insert}
-use Rattle.stores.proofs.Answering.{unlimited, put_refused_cell, put_refused_stamp, put_told, meld_told}
+use Rattle.stores.proofs.Answering.{unlimited, first_refused, put_refused_queue, put_refused_cell, put_refused_stamp, put_told, meld_refused_into, meld_refused_from, meld_refused_same, meld_told, puts_refused, takes_refused, takes_none, melds_refused, cancels_refused}
 use Rattle.records.specs.declared.cells.Record.{Record}
 use Rattle.records.specs.Cells.{Cell, empty, Numbered, queue_of, lists_of, queued, stamped, moved, position, has_stamp, Holds, StampedAt, FrontAt}
 use Rattle.records.proofs.Positions.{position_none}
@@ -21,8 +21,9 @@ use Rattle.records.proofs.Counts.{none_empty, one_empty, stamp_is, numbered_at, 
 use Rattle.records.proofs.Queues.{length_queue, tally_queue}
 use Rattle.records.proofs.Numbers.{queue_none, queue_some}
 use Rattle.records.proofs.Lists.{list_is, lists_fill, list_drop, list_drop_other, lists_drop, lists_move}
-use Rattle.table.specs.Tables.{meant, Sound}
-use Rattle.table.proofs.Standing.{once, live_here, formed, first_some}
+use Rattle.records.specs.Whole.{meant, Sound}
+use Rattle.records.proofs.Standing.{once, live_here, formed}
+use Rattle.table.proofs.Standing.{first_here}
 
 -- a table is sound, and E holds of what it stands for
 pub record After {T : Type 0} (le : T → T → Bool) (E : Meaning T → Type 0) (cs : List (Cell T)) (next stamps : ℕ) : Type 0 where
@@ -33,21 +34,34 @@ module _ {T : Type 0} {cs : List (Cell T)} {next stamps : ℕ} (h : Sound cs nex
   abbrev before : Meaning T
   before = meant le cs next stamps
 
-  -- the table's values after the call are known
-  along : {E : Meaning T → Type 0} {cs₁ cs₂ : List (Cell T)} {n₁ n₂ s₁ s₂ : ℕ} → cs₂ ≡ cs₁ → n₂ ≡ n₁ → s₂ ≡ s₁ → After le E cs₁ n₁ s₁ → After le E cs₂ n₂ s₂
-  along {E} {cs₁} {cs₂} {n₁} {n₂} {s₁} {s₂} e f g a = subst (λ x. After le E x n₂ s₂) (sym e) (subst (λ y. After le E cs₁ y s₂) (sym f) (subst (λ z. After le E cs₁ n₁ z) (sym g) a))
+  before_formed : WellFormed le before
+  before_formed = formed h le laws
+
+  -- the cells after the call are known
+  along : {E : Meaning T → Type 0} {cs₁ cs₂ : List (Cell T)} {n : ℕ} → cs₂ ≡ cs₁ → After le E cs₁ n stamps → After le E cs₂ n stamps
+  along {E} {cs₁} {cs₂} {n} e a = subst (λ x. After le E x n stamps) (sym e) a
+
+  -- no such queue
+  pub put_far : (q : ℕ) (x : T) → 32 ≤ q → Puts le before q x (Err QueueNumber) before
+  put_far q x far = puts_refused before_formed q x QueueNumber (put_refused_queue before q far)
+
+  pub take_far : (q : ℕ) → 32 ≤ q → Takes le before q (Err QueueNumber) before
+  take_far q far = takes_refused before_formed q QueueNumber (first_refused before.state q far)
+
+  pub meld_far : (a b : ℕ) → (32 ≤ a) ⊎ ((a < 32) × (32 ≤ b)) → Melds le before a b (Err QueueNumber) before
+  meld_far a b far = melds_refused before_formed a b QueueNumber (⊎_elim (meld_refused_into before.state a b) (λ k. meld_refused_from before.state a b k.0 k.1) far)
 
   -- put into queue q
   module _ (q : ℕ) (near : q < 32) where
-    pub full : None ≡ position empty cs 0 → Err NoCell ≡ put_answer before q
-    full e = put_refused_cell before q near (unlimited (length cs) stamps q _) (omega (arith, live_here h le, none_empty cs e))
+    pub put_full : (x : T) → None ≡ position empty cs 0 → Puts le before q x (Err NoCell) before
+    put_full x e = puts_refused before_formed q x NoCell (put_refused_cell before q near (unlimited (length cs) stamps q _) (omega (arith, live_here h le, none_empty cs e)))
 
     module _ (i : ℕ) (e : Some i ≡ position empty cs 0) where
       room : live before.state + 0 ≡ length cs → ⊥
       room a = omega (arith, a, live_here h le, (one_empty cs i e).2)
 
-      pub spent : next ≡ stamps → Err NoStamp ≡ put_answer before q
-      spent = put_refused_stamp before q near (unlimited (length cs) stamps q _) room
+      pub put_spent : (x : T) → next ≡ stamps → Puts le before q x (Err NoStamp) before
+      put_spent x last = puts_refused before_formed q x NoStamp (put_refused_stamp before q near (unlimited (length cs) stamps q _) room last)
 
       module _ (x : T) (more : next ≡ stamps → ⊥) where
         abbrev new : Record T
@@ -64,8 +78,8 @@ module _ {T : Type 0} {cs : List (Cell T)} {next stamps : ℕ} (h : Sound cs nex
         unused : stamped next cs ≡ 0
         unused = let m = h.marked next in grind (arith, nat_tests)
 
-        pub put_done : {cs₂ : List (Cell T)} {next₂ stamps₂ : ℕ} → cs₂ ≡ set cs i (Some new) → next₂ ≡ next + 1 → stamps₂ ≡ stamps → After le (Puts le before q x (Ok next)) cs₂ next₂ stamps₂
-        put_done a b c = along a b c (record {
+        pub put_done : {cs₂ : List (Cell T)} → cs₂ ≡ set cs i (Some new) → After le (Puts le before q x (Ok next)) cs₂ (next + 1) stamps
+        put_done a = along a (record {
           sound = filled;
           effect = record {
             answer = put_told before q near (unlimited (length cs) stamps q _) room next more refl;
@@ -123,18 +137,21 @@ module _ {T : Type 0} {cs : List (Cell T)} {next stamps : ℕ} (h : Sound cs nex
       };
     }
 
-  pub cancel_done : (k i : ℕ) (r : Record T) → StampedAt k cs (Some (i, r)) → {cs₂ : List (Cell T)} {next₂ stamps₂ : ℕ} → cs₂ ≡ set cs i None → next₂ ≡ next → stamps₂ ≡ stamps → After le (Cancels le before k (Ok r.queue)) cs₂ next₂ stamps₂
-  cancel_done k i r at a b c = along a b c (subst (λ n. After le (Cancels le before n (Ok r.queue)) (set cs i None) next stamps) (stamp_is k cs i r at) (cancelled i r at.1))
+  pub cancel_done : (k i : ℕ) (r : Record T) → StampedAt k cs (Some (i, r)) → {cs₂ : List (Cell T)} → cs₂ ≡ set cs i None → After le (Cancels le before k (Ok r.queue)) cs₂ next stamps
+  cancel_done k i r at a = along a (subst (λ n. After le (Cancels le before n (Ok r.queue)) (set cs i None) next stamps) (stamp_is k cs i r at) (cancelled i r at.1))
 
-  pub not_queued : (k : ℕ) → StampedAt k cs None → Err (NotQueued 0) ≡ cancel_answer before k
-  not_queued k e = sym (ap (found 0) (queue_none k (λ q. queue_of le q cs) (λ q. has_none stamp_of k (queue_of le q cs) (omega (arith, position_none (has_stamp k) cs 0 e, tally_queue le q k cs)))))
+  pub cancel_none : (k : ℕ) → StampedAt k cs None → Cancels le before k (Err (NotQueued 0)) before
+  cancel_none k e = cancels_refused before_formed k (NotQueued 0) (sym (ap (found 0) (queue_none k (λ q. queue_of le q cs) (λ q. has_none stamp_of k (queue_of le q cs) (omega (arith, position_none (has_stamp k) cs 0 e, tally_queue le q k cs))))))
 
   -- take
-  pub take_done : (q i : ℕ) (e : Entry T) → q < 32 → FrontAt le q cs (Some (i, e)) → {cs₂ : List (Cell T)} {next₂ stamps₂ : ℕ} → cs₂ ≡ set cs i None → next₂ ≡ next → stamps₂ ≡ stamps → After le (Takes le before q (Ok (Some e))) cs₂ next₂ stamps₂
-  take_done q i e near at a b c = along a b c (record {
+  pub take_none : (q : ℕ) → q < 32 → FrontAt le q cs None → Takes le before q (Ok None) before
+  take_none q near e = takes_none before_formed q (first_here h le q near None e)
+
+  pub take_done : (q : ℕ) → q < 32 → (i : ℕ) (e : Entry T) → FrontAt le q cs (Some (i, e)) → {cs₂ : List (Cell T)} → cs₂ ≡ set cs i None → After le (Takes le before q (Ok (Some e))) cs₂ next stamps
+  take_done q near i e at a = along a (record {
     sound = left i r at.1;
     effect = record {
-      answer = first_some h le q near i e at;
+      answer = first_here h le q near (Some (i, e)) at;
       after = λ j. record { lists = lists_drop le laws cs i r near at.1 (once h e.stamp) (rest (get_or (lists_of le cs) q [])) (sym (ap rest (was i r at.1) ∙ rest_insert (precedes_by le) (strict le laws) e (queue_of le q (set cs i None)) fronts)) j; next = next };
       fixed = fixed_left i r at.1;
       held = omega arith;
@@ -149,6 +166,9 @@ module _ {T : Type 0} {cs : List (Cell T)} {next stamps : ℕ} (h : Sound cs nex
       fronts = ap front (sym (was i r at.1) ∙ list_is le cs q near) ∙ at.0
 
   -- meld
+  pub meld_same : (a b : ℕ) → a < 32 → b < 32 → a ≡ b → Melds le before a b (Err SameQueue) before
+  meld_same a b l m e = melds_refused before_formed a b SameQueue (meld_refused_same before.state a b l m e)
+
   module _ (a b : ℕ) (l : a < 32) (m : b < 32) (ne : a ≡ b → ⊥) where
     joined : Sound (map (moved a b) cs) next stamps
     joined = record {
@@ -158,8 +178,8 @@ module _ {T : Type 0} {cs : List (Cell T)} {next stamps : ℕ} (h : Sound cs nex
       marked = λ k. omega (arith, h.marked k, stamped_moved k a b cs);
     }
 
-    pub meld_done : (n : ℕ) → n ≡ queued b cs → {cs₂ : List (Cell T)} {next₂ stamps₂ : ℕ} → cs₂ ≡ map (moved a b) cs → next₂ ≡ next → stamps₂ ≡ stamps → After le (Melds le before a b (Ok n)) cs₂ next₂ stamps₂
-    meld_done n e x y z = along x y z (record {
+    pub meld_done : (n : ℕ) → n ≡ queued b cs → {cs₂ : List (Cell T)} → cs₂ ≡ map (moved a b) cs → After le (Melds le before a b (Ok n)) cs₂ next stamps
+    meld_done n e x = along x (record {
       sound = joined;
       effect = record {
         answer = meld_told before.state a b n l m ne (e ∙ sym (ap length (list_is le cs b m) ∙ length_queue le b cs));

@@ -7,10 +7,11 @@ ghost use Rattle.stores.specs.Refusals.{Tests};
 ghost use Rattle.stores.specs.declared.refusals.Unfit.TheVariants.{OutOfRange};
 ghost use Rattle.records.specs.Cells.{position, empty, StampedAt, FrontAt, queued, moved};
 ghost use Rattle.table.specs.Tables.{meaning_of, SoundTable, Fit};
+ghost use Rattle.records.proofs.Standing.{formed};
 
 use elements::{Entry, Ordered};
 use records::{Record, clear, count_in, empty_cell, front_in, move_all, stamped_cell};
-use stores::{Agenda, QUEUES, Refusal, Unfit, sizes_allowed};
+use stores::{Agenda, QUEUES, Refusal, Sizes, Store, Unfit};
 
 // The records of all queues, the next stamp, and how many stamps there are.
 #[derive(Drop)]
@@ -20,37 +21,41 @@ pub struct Table<'a, T> {
     stamps: u16,
 }
 
-// Whether a table of so many cells and stamps can be made of the slice.
-pub fn fits<T: Copy>(slice: &[Option<Record<T>>], cells: u16, stamps: u16) -> Result<(), Unfit>
-    ensures { Tests result OutOfRange (Fit (length slice.now) cells stamps) }
+// Whether a table of these sizes can be made of the slice.
+pub fn fits<T: Copy>(slice: &[Option<Record<T>>], sizes: Sizes) -> Result<(), Unfit>
+    ensures { Tests result OutOfRange (Fit (length slice.now) sizes.cells sizes.stamps) }
 {
-    if !sizes_allowed(cells, stamps) || slice.len() != cells as usize {
+    if !sizes.are_allowed() || slice.len() != sizes.cells as usize {
         return Err(Unfit::OutOfRange);
     }
     Ok(())
 }
 
-// A table with no entries, of a slice and sizes that passed `fits`.
-pub fn make<'a, T: Ordered + Copy>(
-    slice: &'a mut [Option<Record<T>>],
-    cells: u16,
-    stamps: u16,
-) -> Table<'a, T>
-    requires { Fit (length slice.old) cells stamps }
+// A table with no entries, of a slice and sizes that passed `fits`. The clause `lent` says that the table has this slice.
+pub fn make<'a, T: Ordered + Copy>(slice: &'a mut [Option<Record<T>>], sizes: Sizes) -> Table<'a, T>
+    requires { Fit (length slice.old) sizes.cells sizes.stamps }
     ensures sound { SoundTable result }
     ensures formed { WellFormed T.Ordered.le (meaning_of T.Ordered.le result) }
-    ensures meaning { meaning_of T.Ordered.le result ≡ fresh_bare cells stamps }
+    ensures meaning { meaning_of T.Ordered.le result ≡ fresh_bare sizes.cells sizes.stamps }
     ensures lent { result.cells.ghost_name ≡ slice.entry.ghost_name }
 {
     clear(slice);
     Table {
         cells: slice,
         next: 0,
-        stamps,
+        stamps: sizes.stamps,
     }
 }
 
-// The clauses `lent` say that the table still has the slice of which it was made.
+// The cell i is written over.
+fn write<T: Copy>(cells: &mut [Option<Record<T>>], i: usize, cell: Option<Record<T>>)
+    requires { i < length cells.old }
+    ensures { cells.new ≡ slice_set cells.old i cell }
+{
+    cells[i] = cell;
+}
+
+// These lend the slice: the checker covers no `&mut self` that lends its field as a `&[..]` itself.
 impl<'a, T: Ordered + Copy> Table<'a, T> {
     fn empty(&self) -> Option<usize>
         ensures { result ≡ position empty self.now.cells.now 0 }
@@ -70,85 +75,57 @@ impl<'a, T: Ordered + Copy> Table<'a, T> {
         front_in(self.cells, queue)
     }
 
+    // How many entries the queue has, which fits a `u16`.
     fn counted(&self, queue: u8) -> u16
         requires { length self.now.cells.now ≤ 4096 }
         ensures { result ≡ queued queue self.now.cells.now }
     {
         count_in(self.cells, queue) as u16
     }
-
-    fn write(&mut self, i: usize, cell: Option<Record<T>>)
-        requires { i < length self.old.cells.now }
-        ensures cells { self.new.cells.now ≡ slice_set self.old.cells.now i cell }
-        ensures next { self.new.next ≡ self.old.next }
-        ensures stamps { self.new.stamps ≡ self.old.stamps }
-        ensures lent { self.new.cells.ghost_name ≡ self.old.cells.ghost_name }
-    {
-        self.cells[i] = cell;
-    }
-
-    fn move_queue(&mut self, into: u8, from: u8)
-        ensures cells { self.new.cells.now ≡ map (moved into from) self.old.cells.now }
-        ensures next { self.new.next ≡ self.old.next }
-        ensures stamps { self.new.stamps ≡ self.old.stamps }
-        ensures lent { self.new.cells.ghost_name ≡ self.old.cells.ghost_name }
-    {
-        move_all(self.cells, into, from)
-    }
 }
 
-impl<'a, T: Ordered + Copy> Agenda for Table<'a, T> {
+impl<'a, T: Ordered + Copy> Store for Table<'a, T> {
     type Item = T;
 
     ghost meaning = { λ t. meaning_of T.Ordered.le t };
 
     ghost sound = { λ t. SoundTable t };
 
+    ghost formed = { λ t h. formed h T.Ordered.le T.Ordered.laws };
+
     fn put(&mut self, queue: u8, element: T) -> Result<u16, Refusal> {
         if queue >= QUEUES {
             return Err(Refusal::QueueNumber);
         }
-        match self.empty() {
-            None => Err(Refusal::NoCell),
-            Some(i) => {
-                if self.next == self.stamps {
-                    return Err(Refusal::NoStamp);
-                }
-                let stamp = self.next;
-                self.write(
-                    i,
-                    Some(Record {
-                        queue,
-                        entry: Entry { element, stamp },
-                    }),
-                );
-                self.next = stamp + 1;
-                Ok(stamp)
-            }
+        let Some(i) = self.empty() else {
+            return Err(Refusal::NoCell);
+        };
+        if self.next == self.stamps {
+            return Err(Refusal::NoStamp);
         }
+        let stamp = self.next;
+        let entry = Entry { element, stamp };
+        write(self.cells, i, Some(Record { queue, entry }));
+        self.next = stamp + 1;
+        Ok(stamp)
     }
 
     fn first(&self, queue: u8) -> Result<Option<Entry<T>>, Refusal> {
         if queue >= QUEUES {
             return Err(Refusal::QueueNumber);
         }
-        match self.front(queue) {
-            None => Ok(None),
-            Some((_, entry)) => Ok(Some(entry)),
-        }
+        Ok(self.front(queue).map(|(_, entry)| entry))
     }
 
     fn take(&mut self, queue: u8) -> Result<Option<Entry<T>>, Refusal> {
         if queue >= QUEUES {
             return Err(Refusal::QueueNumber);
         }
-        match self.front(queue) {
-            None => Ok(None),
-            Some((i, entry)) => {
-                self.write(i, None);
-                Ok(Some(entry))
-            }
-        }
+        let Some((i, entry)) = self.front(queue) else {
+            return Ok(None);
+        };
+        write(self.cells, i, None);
+        Ok(Some(entry))
     }
 
     fn meld(&mut self, into: u8, from: u8) -> Result<u16, Refusal> {
@@ -159,7 +136,7 @@ impl<'a, T: Ordered + Copy> Agenda for Table<'a, T> {
             return Err(Refusal::SameQueue);
         }
         let count = self.counted(from);
-        self.move_queue(into, from);
+        move_all(self.cells, into, from);
         Ok(count)
     }
 
@@ -174,21 +151,24 @@ impl<'a, T: Ordered + Copy> Agenda for Table<'a, T> {
         self.next
     }
 
-    fn sizes(&self) -> (u16, u16) {
-        (self.cells.len() as u16, self.stamps)
+    fn sizes(&self) -> Sizes {
+        Sizes {
+            cells: self.cells.len() as u16,
+            stamps: self.stamps,
+        }
     }
 
     fn height(&self) -> u8 {
         0
     }
+}
 
+impl<'a, T: Ordered + Copy> Agenda for Table<'a, T> {
     fn cancel(&mut self, stamp: u16) -> Result<u8, Refusal> {
-        match self.stamped(stamp) {
-            None => Err(Refusal::NotQueued { height: 0 }),
-            Some((i, record)) => {
-                self.write(i, None);
-                Ok(record.queue)
-            }
-        }
+        let Some((i, record)) = self.stamped(stamp) else {
+            return Err(Refusal::NotQueued { height: 0 });
+        };
+        write(self.cells, i, None);
+        Ok(record.queue)
     }
 }

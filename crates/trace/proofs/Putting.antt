@@ -1,11 +1,8 @@
 -- One thing is put after another.
-use Rattle.std.proofs.Common.{◌≡◌, ℕ, ◌+◌, ◌-◌, ◌/◌, ◌%◌, ◌^◌, ◌<◌, ◌≤◌, List, [], ◌∷◌, ◌++◌, length, take, drop, set, decimal, sym, refl, ap, ◌∙◌, subst, append_assoc, arith, length-append}
-use Rattle.std.proofs.lemmas.List.{take_more_set, drop-set-lt, drop-drop}
+use Rattle.std.proofs.Common.{◌≡◌, ℕ, ◌+◌, ◌-◌, ◌/◌, ◌%◌, ◌^◌, ◌<◌, ◌≤◌, List, [], ◌∷◌, ◌++◌, length, take, drop, decimal, sym, ap, ◌∙◌, subst, append_assoc, arith, length-append}
+use Rattle.std.proofs.lemmas.List.{drop-drop}
 use Rattle.std.proofs.lemmas.Fmt.{decimal_digit, decimal_step, length-decimal-le}
 use Rattle.trace.specs.Puts.{Put}
-
-pub one_byte : (out : List ℕ) (at b : ℕ) → at < length out → Put out at (b ∷ []) (set out at b) (at + 1)
-one_byte out at b l = record { place = refl; front = take_more_set out at b l; back = drop-set-lt (at + 1) out at b (omega arith) }
 
 -- behind a place from which nothing changed, nothing changed either
 still : (xs ys : List ℕ) (m n : ℕ) → m ≤ n → drop m xs ≡ drop m ys → drop n xs ≡ drop n ys
@@ -23,8 +20,10 @@ module _ (before between after : List ℕ) (at mid next : ℕ) (bytes more : Lis
 
 -- the digits of a number: one, or the last one behind those of a tenth of it
 module _ (n : ℕ) (small : n < 2 ^ 32) where
-  pub first_digit : (before after : List ℕ) (at next : ℕ) → n < 10 → Put before at ((48 + n) ∷ []) after next → Put before at (decimal n) after next
-  first_digit before after at next l p = subst (λ ds. Put before at ds after next) (sym (decimal_digit n l)) p
+  pub only_digit : (before after : List ℕ) (at next : ℕ) → n < 10 → Put before at ((48 + n % 10) ∷ []) after next → Put before at (decimal n) after next
+  only_digit before after at next l p =
+      let e : n ≡ n % 10 = omega arith in
+      subst (λ ds. Put before at ds after next) (ap (λ d. (48 + d) ∷ []) (sym e) ∙ sym (decimal_digit n l)) p
 
   pub last_digit : (before between after : List ℕ) (at mid next : ℕ) → 10 ≤ n → Put before at (decimal (n / 10)) between mid → Put between mid ((48 + n % 10) ∷ []) after next → Put before at (decimal n) after next
   last_digit before between after at mid next l p q = subst (λ ds. Put before at ds after next) (sym (decimal_step n l (omega arith))) (both _ _ _ _ _ _ _ _ p q)

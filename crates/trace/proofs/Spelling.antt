@@ -1,5 +1,5 @@
 -- Each line of a trace is what its template writes.
-use Rattle.std.proofs.Common.{◌≡◌, ℕ, ◌+◌, ◌*◌, ◌≤◌, List, [], ◌∷◌, ◌++◌, map, length, Some, None, Ok, codes, decimal, Option, sym, ap, ◌∙◌, subst, append_assoc, arith, take-append-drop}
+use Rattle.std.proofs.Common.{◌≡◌, ℕ, ◌+◌, ◌*◌, ◌≤◌, ◌⊎◌, inl, inr, List, [], ◌∷◌, ◌++◌, map, length, Some, None, codes, decimal, Option, refl, sym, ap, ◌∙◌, append_assoc, arith, take-append-drop}
 use Rattle.scanner.specs.Templates.{fill}
 use Rattle.stores.specs.Refusals.{number_of, height_of}
 use Rattle.machine.specs.declared.records.RecordKind.{RecordKind}
@@ -12,12 +12,34 @@ use Rattle.machine.specs.declared.records.Totals.{Totals}
 use Rattle.machine.specs.Closing.{inside}
 use Rattle.machine.specs.Lent.{line_bytes}
 use Rattle.machine.specs.Text.{record_line, end_line, fault_line, refused_line}
-use Rattle.trace.specs.declared.Line.{Line}
-use Rattle.trace.specs.Lines.{line_text, Written, Writes}
+use Rattle.trace.specs.Lines.{Written}
 use Rattle.trace.specs.Puts.{Put}
-use Rattle.trace.specs.Records.{record_template, record_numbers}
+use Rattle.trace.specs.Records.{record_template, fault_template}
 
--- records
+-- records: the numbers for the gaps
+abbrev pub record_numbers : ℕ → RecordKind → List ℕ
+record_numbers t (Start i k) = t ∷ i ∷ k ∷ []
+record_numbers t (Wait i k) = t ∷ i ∷ k ∷ []
+record_numbers t (Away i k) = t ∷ i ∷ k ∷ []
+record_numbers t (Withdrawn i) = t ∷ i ∷ []
+record_numbers t (Missed i) = t ∷ i ∷ []
+record_numbers t (Finish i k) = t ∷ i ∷ k ∷ []
+record_numbers t (Done i) = t ∷ i ∷ []
+record_numbers t (Close k j n) = t ∷ k ∷ j ∷ n ∷ []
+record_numbers t (Kept k j) = t ∷ k ∷ j ∷ []
+
+-- which numbers they are, where kinds of records are told alike
+pub with_station : (t i s : ℕ) (k : RecordKind) → (k ≡ Start i s) ⊎ ((k ≡ Wait i s) ⊎ ((k ≡ Away i s) ⊎ (k ≡ Finish i s))) → t ∷ i ∷ s ∷ [] ≡ record_numbers t k
+with_station t i s k (inl e) = ap (record_numbers t) (sym e)
+with_station t i s k (inr (inl e)) = ap (record_numbers t) (sym e)
+with_station t i s k (inr (inr (inl e))) = ap (record_numbers t) (sym e)
+with_station t i s k (inr (inr (inr e))) = ap (record_numbers t) (sym e)
+
+pub of_order : (t i : ℕ) (k : RecordKind) → (k ≡ Withdrawn i) ⊎ ((k ≡ Missed i) ⊎ (k ≡ Done i)) → t ∷ i ∷ [] ≡ record_numbers t k
+of_order t i k (inl e) = ap (record_numbers t) (sym e)
+of_order t i k (inr (inl e)) = ap (record_numbers t) (sym e)
+of_order t i k (inr (inr e)) = ap (record_numbers t) (sym e)
+
 record_filled : (t : ℕ) (k : RecordKind) → fill (record_template k) (map decimal (record_numbers t k)) ≡ record_line (record { at = t; kind = k })
 record_filled t (Start i k) = sym (simp append_assoc)
 record_filled t (Wait i k) = sym (simp append_assoc)
@@ -41,27 +63,26 @@ record_room t (Close k j n) = omega arith
 record_room t (Kept k j) = omega arith
 
 -- the end
-abbrev end_template : List ℕ
+abbrev pub end_template : List ℕ
 end_template = codes "(end # (done #) (away #) (withdrawn #) (inside #))\n"
 
-abbrev end_numbers : ℕ → Totals → List ℕ
+abbrev pub end_numbers : ℕ → Totals → List ℕ
 end_numbers t x = t ∷ x.done ∷ x.away ∷ x.withdrawn ∷ inside x ∷ []
 
 end_filled : (t : ℕ) (x : Totals) → fill end_template (map decimal (end_numbers t x)) ≡ end_line t x
 end_filled t x = sym (simp append_assoc)
 
 -- a fault
-abbrev fault_template : StoreName → List ℕ
-fault_template Events = codes "(fault # (cause #) (store events) (layer #))\n"
-fault_template Orders = codes "(fault # (cause #) (store orders) (layer #))\n"
+abbrev pub fault_numbers : Fault → List ℕ
+fault_numbers f = f.instant ∷ number_of f.refusal ∷ height_of f.refusal ∷ []
 
-fault_filled : (f : Fault) (s : StoreName) (m h : ℕ) → f.store ≡ s → m ≡ number_of f.refusal → h ≡ height_of f.refusal → fill (fault_template s) (map decimal (f.instant ∷ m ∷ h ∷ [])) ≡ fault_line f
-fault_filled f Events m h e p q = (λ j. fill (fault_template Events) (map decimal (f.instant ∷ p j ∷ q j ∷ []))) ∙ sym (simp (e, append_assoc))
-fault_filled f Orders m h e p q = (λ j. fill (fault_template Orders) (map decimal (f.instant ∷ p j ∷ q j ∷ []))) ∙ sym (simp (e, append_assoc))
+fault_filled : (f : Fault) (s : StoreName) → f.store ≡ s → fill (fault_template s) (map decimal (fault_numbers f)) ≡ fault_line f
+fault_filled f Events e = sym (simp (e, append_assoc))
+fault_filled f Orders e = sym (simp (e, append_assoc))
 
-fault_room : (s : StoreName) (t m h : ℕ) → length (fault_template s) + 9 * length (t ∷ m ∷ h ∷ []) ≤ line_bytes
-fault_room Events t m h = omega arith
-fault_room Orders t m h = omega arith
+fault_room : (s : StoreName) (f : Fault) → length (fault_template s) + 9 * length (fault_numbers f) ≤ line_bytes
+fault_room Events f = omega arith
+fault_room Orders f = omega arith
 
 -- a refused script
 abbrev refused_template : Option ℕ → List ℕ
@@ -95,14 +116,11 @@ module _ (before after : List ℕ) (n : ℕ) where
   pub record_written : (r : Record) (t ns : List ℕ) → t ≡ record_template r.kind → ns ≡ record_numbers r.at r.kind → n ≤ length t + 9 * length ns → Filled t ns → Written (record_line r) before after n
   record_written r t ns p q = is_written t ns (record_line r) ((λ j. fill (p j) (map decimal (q j))) ∙ record_filled r.at r.kind) (omega (arith, ap length p, ap length q, record_room r.at r.kind))
 
-  pub end_written : (t : ℕ) (x : Totals) → n ≤ length end_template + 9 * length (end_numbers t x) → Filled end_template (end_numbers t x) → Written (end_line t x) before after n
-  end_written t x = is_written end_template (end_numbers t x) (end_line t x) (end_filled t x) (omega arith)
+  pub end_written : (t : ℕ) (x : Totals) (ns : List ℕ) → ns ≡ end_numbers t x → n ≤ length end_template + 9 * length ns → Filled end_template ns → Written (end_line t x) before after n
+  end_written t x ns q = is_written end_template ns (end_line t x) (ap (λ ms. fill end_template (map decimal ms)) q ∙ end_filled t x) (omega (arith, ap length q))
 
-  pub fault_written : (f : Fault) (s : StoreName) (m h : ℕ) → f.store ≡ s → m ≡ number_of f.refusal → h ≡ height_of f.refusal → n ≤ length (fault_template s) + 9 * length (f.instant ∷ m ∷ h ∷ []) → Filled (fault_template s) (f.instant ∷ m ∷ h ∷ []) → Written (fault_line f) before after n
-  fault_written f s m h e p q = is_written (fault_template s) (f.instant ∷ m ∷ h ∷ []) (fault_line f) (fault_filled f s m h e p q) (fault_room s f.instant m h)
+  pub fault_written : (f : Fault) (t ns : List ℕ) → t ≡ fault_template f.store → ns ≡ fault_numbers f → n ≤ length t + 9 * length ns → Filled t ns → Written (fault_line f) before after n
+  fault_written f t ns p q = is_written t ns (fault_line f) ((λ j. fill (p j) (map decimal (q j))) ∙ fault_filled f f.store refl) (omega (arith, ap length p, ap length q, fault_room f.store f))
 
   pub refused_written : (m k l : ℕ) (o p : Option ℕ) → k ≡ m → p ≡ o → n ≤ length (refused_template p) + 9 * length (refused_numbers k l p) → Filled (refused_template p) (refused_numbers k l p) → Written (refused_line m l o) before after n
   refused_written m k l o p e f = is_written (refused_template p) (refused_numbers k l p) (refused_line m l o) (refused_filled k l p ∙ (λ j. refused_line (e j) l (f j))) (refused_room k l p)
-
-  pub line_written : (l m : Line) → l ≡ m → line_bytes ≤ length before → Written (line_text m) before after n → Writes (line_text l) before after (Ok n)
-  line_written l m e lent w = (lent, subst (λ x. Written (line_text x) before after n) (sym e) w)

@@ -1,8 +1,9 @@
--- How a record is written: its template, and the numbers for the gaps. A template has at most four gaps, and those with
--- fewer do not use the last numbers.
-use Rattle.std.specs.Prelude.{ℕ, List, [], ◌∷◌, codes}
+-- The templates by which records and faults are written; each `#` is a gap for a number.
+use Rattle.std.specs.Prelude.{ℕ, List, codes}
 use Rattle.machine.specs.declared.records.RecordKind.{RecordKind}
 use Rattle.machine.specs.declared.records.RecordKind.TheVariants.{Start, Wait, Away, Withdrawn, Missed, Finish, Done, Close, Kept}
+use Rattle.machine.specs.declared.records.StoreName.{StoreName}
+use Rattle.machine.specs.declared.records.StoreName.TheVariants.{Events, Orders}
 
 abbrev pub record_template : RecordKind → List ℕ
 record_template (Start i k) = codes "(at # (start # #))\n"
@@ -15,13 +16,6 @@ record_template (Done i) = codes "(at # (done #))\n"
 record_template (Close k j n) = codes "(at # (close # # #))\n"
 record_template (Kept k j) = codes "(at # (kept # #))\n"
 
-abbrev pub record_numbers : ℕ → RecordKind → List ℕ
-record_numbers t (Start i k) = t ∷ i ∷ k ∷ 0 ∷ []
-record_numbers t (Wait i k) = t ∷ i ∷ k ∷ 0 ∷ []
-record_numbers t (Away i k) = t ∷ i ∷ k ∷ 0 ∷ []
-record_numbers t (Withdrawn i) = t ∷ i ∷ 0 ∷ 0 ∷ []
-record_numbers t (Missed i) = t ∷ i ∷ 0 ∷ 0 ∷ []
-record_numbers t (Finish i k) = t ∷ i ∷ k ∷ 0 ∷ []
-record_numbers t (Done i) = t ∷ i ∷ 0 ∷ 0 ∷ []
-record_numbers t (Close k j n) = t ∷ k ∷ j ∷ n ∷ []
-record_numbers t (Kept k j) = t ∷ k ∷ j ∷ 0 ∷ []
+abbrev pub fault_template : StoreName → List ℕ
+fault_template Events = codes "(fault # (cause #) (store events) (layer #))\n"
+fault_template Orders = codes "(fault # (cause #) (store orders) (layer #))\n"

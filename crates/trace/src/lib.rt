@@ -1,7 +1,9 @@
 // The lines of a trace, each as its bytes in a lent buffer.
 #![tactic(auto)]
 
+ghost use Rattle.std.specs.Prelude.{◌≡◌};
 ghost use Rattle.trace.specs.Lines.{line_text, Writes};
+ghost use Rattle.trace.specs.declared.Line.TheVariants.{Record as record-line, Fault as fault-line};
 
 mod lines;
 mod templates;
@@ -13,12 +15,28 @@ use machine::{Fault, Record, ScriptRefusal, TooShort, Totals};
 pub const LINE_BYTES: usize = 96;
 
 // A record, how the run ended, the fault that ended it before, or the line at which the script was refused.
-#[derive(Clone, Copy)]
+#[derive(Clone, Copy, PartialEq, Eq, Debug)]
 pub enum Line {
     Record(Record),
     End { at: u32, totals: Totals },
     Fault(Fault),
     Refused { refusal: ScriptRefusal, line: u32 },
+}
+
+impl From<Record> for Line {
+    ghost from_gives = { λ r l. l ≡ record-line r };
+
+    fn from(told: Record) -> Line {
+        Line::Record(told)
+    }
+}
+
+impl From<Fault> for Line {
+    ghost from_gives = { λ f l. l ≡ fault-line f };
+
+    fn from(told: Fault) -> Line {
+        Line::Fault(told)
+    }
 }
 
 // Writes the line with its newline to the front of the buffer, and answers how many bytes that are.

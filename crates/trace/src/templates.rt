@@ -1,50 +1,62 @@
 // Lines that a template writes, with numbers in its gaps.
-ghost use Rattle.std.specs.Prelude.{◌+◌, ◌*◌, ◌<◌, ◌≤◌, [], ◌∷◌, map, length, decimal};
+ghost use Rattle.std.specs.Prelude.{◌≡◌, ◌+◌, ◌*◌, ◌<◌, ◌≤◌, [], ◌∷◌, map, length, decimal};
 ghost use Rattle.scanner.specs.Templates.{fill};
 ghost use Rattle.trace.specs.Puts.{Put};
 
 // The byte of a template that stands for a number.
 const GAP: u8 = b'#';
 
-// Puts one byte, and answers the place behind it.
-fn put_byte(out: &mut [u8], at: usize, byte: u8) -> usize
-    requires { at < length out.old }
-    ensures { Put out.old at (byte ∷ []) out.new result }
-{
-    out[at] = byte;
-    at + 1
+// A lent buffer, and how many of its bytes are written. A line is never on the heap, so it is put together here and not
+// by `format!`.
+#[derive(Drop)]
+struct Writer<'a> {
+    out: &'a mut [u8],
+    at: usize,
 }
 
-// Puts the digits of the number, of which there are at most ten, and answers the place behind them.
-fn put_number(out: &mut [u8], at: usize, number: u32) -> usize
-    requires { at + 10 ≤ length out.old }
-    ensures { Put out.old at (decimal number) out.new result }
-{
-    if number < 10 {
-        return put_byte(out, at, b'0' + number as u8);
+impl<'a> Writer<'a> {
+    fn put_byte(&mut self, byte: u8)
+        requires { self.old.at < length self.old.out.now }
+        ensures same_buffer { self.new.out.ghost_name ≡ self.old.out.ghost_name }
+        ensures same_length { length self.new.out.now ≡ length self.old.out.now }
+        ensures put { Put self.old.out.now self.old.at (byte ∷ []) self.new.out.now self.new.at }
+    {
+        self.out[self.at] = byte;
+        self.at += 1;
     }
-    let last = put_number(out, at, number / 10);
-    put_byte(out, last, b'0' + (number % 10) as u8)
+
+    // Puts the digits of the number, of which there are at most ten.
+    fn put_number(&mut self, number: u32)
+        requires { self.old.at + 10 ≤ length self.old.out.now }
+        ensures same_buffer { self.new.out.ghost_name ≡ self.old.out.ghost_name }
+        ensures same_length { length self.new.out.now ≡ length self.old.out.now }
+        ensures put { Put self.old.out.now self.old.at (decimal number) self.new.out.now self.new.at }
+    {
+        if number >= 10 {
+            self.put_number(number / 10);
+        }
+        self.put_byte(b'0' + (number % 10) as u8);
+    }
 }
 
-// Writes the template with the numbers in its gaps to the front of the buffer, and answers how many bytes that are.
+// Writes the template with the numbers in its gaps to the front of the buffer, and answers how many bytes that are. A gap
+// with no number left ends the line.
 pub fn fill_template(out: &mut [u8], template: &[u8], numbers: &[u32]) -> usize
     requires { length template.now + 9 * length numbers.now ≤ length out.old }
     ensures fits { result ≤ length template.now + 9 * length numbers.now }
     ensures put { Put out.old 0 (fill template.now (map decimal numbers.now)) out.new result }
 {
-    let mut at = 0;
-    let mut filled = 0;
+    let mut writer = Writer { out, at: 0 };
+    let mut numbers = numbers.iter();
     for byte in template {
         if *byte == GAP {
-            if filled >= numbers.len() {
-                return at;
-            }
-            at = put_number(out, at, numbers[filled]);
-            filled += 1;
+            let Some(number) = numbers.next() else {
+                break;
+            };
+            writer.put_number(*number);
         } else {
-            at = put_byte(out, at, *byte);
+            writer.put_byte(*byte);
         }
     }
-    at
+    writer.at
 }

@@ -8,30 +8,24 @@ use trace::{LINE_BYTES, Line, write_line};
 // Writes the line over bytes of 7, of which four are lent beyond the least, and looks at all of them.
 fn check_line(line: Line, expected: &[u8]) -> Result<(), Fail> {
     let mut buffer = [7; 100];
-    let Ok(length) = write_line(&line, &mut buffer) else {
-        return Err(Fail::new("enough is lent"));
-    };
+    let length = write_line(&line, &mut buffer).map_err(|_| Fail::new("enough is lent"))?;
     check(&buffer[..length] == expected)?;
-    for byte in &buffer[length..] {
-        check(*byte == 7)?;
-    }
-    Ok(())
+    check(buffer[length..].iter().all(|byte| *byte == 7))
 }
 
 fn check_record(at: u32, kind: RecordKind, expected: &[u8]) -> Result<(), Fail> {
-    check_line(Line::Record(Record { at, kind }), expected)
+    check_line(Line::from(Record { at, kind }), expected)
 }
 
 // What an end line tells, with none pending or stranded.
 fn ended(waiting: u16, serving: u16, done: u16, away: u16, withdrawn: u16) -> Totals {
     Totals {
-        pending: 0,
         waiting,
         serving,
         done,
         away,
         withdrawn,
-        stranded: 0,
+        ..Totals::default()
     }
 }
 
@@ -117,15 +111,10 @@ const EXAMPLE_TEXT: &[u8] =
 #[test]
 fn records_of_the_worked_example(rt: HostRuntime) -> Result<(), Fail> {
     let mut rest = EXAMPLE_TEXT;
-    for (at, kind) in &EXAMPLE {
+    for (at, kind) in EXAMPLE {
         let mut buffer = [0; LINE_BYTES];
-        let line = Line::Record(Record {
-            at: *at,
-            kind: *kind,
-        });
-        let Ok(length) = write_line(&line, &mut buffer) else {
-            return Err(Fail::new("enough is lent"));
-        };
+        let line = Line::from(Record { at, kind });
+        let length = write_line(&line, &mut buffer).map_err(|_| Fail::new("enough is lent"))?;
         assert!(rt; length <= rest.len());
         assert_eq!(rt; &buffer[..length], &rest[..length]);
         rest = &rest[length..];
@@ -149,46 +138,49 @@ fn end_of_the_worked_example() -> Result<(), Fail> {
 fn largest_orders() -> Result<(), Fail> {
     let order = u16::MAX;
     let station = u8::MAX;
-    check_record(
-        u32::MAX,
-        RecordKind::Start { order, station },
-        b"(at 4294967295 (start 65535 255))\n",
-    )?;
-    check_record(
-        u32::MAX,
-        RecordKind::Wait { order, station },
-        b"(at 4294967295 (wait 65535 255))\n",
-    )?;
-    check_record(
-        u32::MAX,
-        RecordKind::Away { order, station },
-        b"(at 4294967295 (away 65535 255))\n",
-    )?;
-    check_record(
-        u32::MAX,
-        RecordKind::Finish { order, station },
-        b"(at 4294967295 (finish 65535 255))\n",
-    )
+    for (kind, expected) in [
+        (
+            RecordKind::Start { order, station },
+            b"(at 4294967295 (start 65535 255))\n".as_slice(),
+        ),
+        (
+            RecordKind::Wait { order, station },
+            b"(at 4294967295 (wait 65535 255))\n",
+        ),
+        (
+            RecordKind::Away { order, station },
+            b"(at 4294967295 (away 65535 255))\n",
+        ),
+        (
+            RecordKind::Finish { order, station },
+            b"(at 4294967295 (finish 65535 255))\n",
+        ),
+    ] {
+        check_record(u32::MAX, kind, expected)?;
+    }
+    Ok(())
 }
 
 #[test]
 fn largest_single_orders() -> Result<(), Fail> {
     let order = u16::MAX;
-    check_record(
-        u32::MAX,
-        RecordKind::Withdrawn { order },
-        b"(at 4294967295 (withdrawn 65535))\n",
-    )?;
-    check_record(
-        u32::MAX,
-        RecordKind::Missed { order },
-        b"(at 4294967295 (missed 65535))\n",
-    )?;
-    check_record(
-        u32::MAX,
-        RecordKind::Done { order },
-        b"(at 4294967295 (done 65535))\n",
-    )
+    for (kind, expected) in [
+        (
+            RecordKind::Withdrawn { order },
+            b"(at 4294967295 (withdrawn 65535))\n".as_slice(),
+        ),
+        (
+            RecordKind::Missed { order },
+            b"(at 4294967295 (missed 65535))\n",
+        ),
+        (
+            RecordKind::Done { order },
+            b"(at 4294967295 (done 65535))\n",
+        ),
+    ] {
+        check_record(u32::MAX, kind, expected)?;
+    }
+    Ok(())
 }
 
 #[test]
@@ -226,7 +218,7 @@ fn largest_totals() -> Result<(), Fail> {
 #[test]
 fn faults() -> Result<(), Fail> {
     check_line(
-        Line::Fault(Fault {
+        Line::from(Fault {
             refusal: Refusal::NoStamp,
             store: StoreName::Events,
             instant: 7,
@@ -234,7 +226,7 @@ fn faults() -> Result<(), Fail> {
         b"(fault 7 (cause 13) (store events) (layer 0))\n",
     )?;
     check_line(
-        Line::Fault(Fault {
+        Line::from(Fault {
             refusal: Refusal::AtLimit { height: 255 },
             store: StoreName::Orders,
             instant: u32::MAX,
@@ -254,20 +246,14 @@ fn refused_scripts() -> Result<(), Fail> {
     )?;
     check_line(
         Line::Refused {
-            refusal: ScriptRefusal::Form {
-                refusal: FormRefusal::OutOfPlace,
-            },
+            refusal: ScriptRefusal::from(FormRefusal::OutOfPlace),
             line: 65537,
         },
         b"(refused 6 (line 65537))\n",
     )?;
     check_line(
         Line::Refused {
-            refusal: ScriptRefusal::Form {
-                refusal: FormRefusal::Store {
-                    refusal: Refusal::NoCell,
-                },
-            },
+            refusal: ScriptRefusal::from(FormRefusal::from(Refusal::NoCell)),
             line: 8,
         },
         b"(refused 12 (line 8) (layer 0))\n",
@@ -281,13 +267,9 @@ fn too_few_bytes(rt: HostRuntime) {
         refusal: ScriptRefusal::Malformed,
         line: 1,
     };
-    match write_line(&line, &mut buffer) {
-        Ok(_) => assert!(rt; false, "95 bytes are too few"),
-        Err(refusal) => assert_eq!(rt; refusal.number(), 8),
-    }
-    for byte in &buffer {
-        assert_eq!(rt; *byte, 7);
-    }
+    let refused = write_line(&line, &mut buffer).map_err(|refusal| refusal.number());
+    assert_eq!(rt; refused, Err(8), "95 bytes are too few");
+    assert!(rt; buffer.iter().all(|byte| *byte == 7));
 }
 
 #[test]

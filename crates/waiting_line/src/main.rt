@@ -6,8 +6,9 @@ ghost use Rattle.service_reports.specs.Reports.{Printed};
 
 use service_reports::report;
 use std::alloc::{AllocError, Global};
-use std::io::Read;
+use stores::Sizes;
 use table::make;
+use waiting_line_runs::run;
 
 const CELLS: u16 = 4096;
 
@@ -17,22 +18,17 @@ const STAMPS: u16 = 32768;
 fn printed(text: &[u8], heap: Global) -> Result<String, AllocError>
     ensures { IfOk result (λ s. Printed 4096 32768 text.now (string_bytes s)) }
 {
+    let sizes = Sizes {
+        cells: CELLS,
+        stamps: STAMPS,
+    };
     let mut cells = vec![in heap; None; 4096]?;
-    let mut line = make(&mut cells, CELLS, STAMPS);
+    let mut line = make(&mut cells, sizes);
     report(&mut line, text, heap)
 }
 
-fn run(rt: &HostRuntime) -> anyhow::Result<()> {
-    let heap = rt.alloc();
-    let mut text = Vec::new(heap);
-    let _ = rt.stdin().read_to_end(&mut text)?;
-    let answer = printed(&text, heap)?;
-    rt.print(answer)?;
-    Ok(())
-}
-
 fn main(rt: HostRuntime) -> anyhow::Result<()> {
-    run(&rt)
+    run(&rt, printed)
 }
 
 #[cfg(test)]

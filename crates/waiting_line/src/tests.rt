@@ -46,7 +46,13 @@ fn number_out_of_range(rt: HostRuntime) -> Result<(), Fail> {
 #[test]
 fn out_of_cells(rt: HostRuntime) -> Result<(), Fail> {
     let mut cells = vec![in rt.alloc(); None; 2]?;
-    let mut line = make(&mut cells, 2, 9);
+    let mut line = make(
+        &mut cells,
+        Sizes {
+            cells: 2,
+            stamps: 9,
+        },
+    );
     let answer = report(&mut line, b"1 0 0\n2 0 0\n3 0 0\n", rt.alloc())?;
     assert_eq!(rt; answer.as_str(), "(refused 12 (line 3) (layer 0))\n");
     Ok(())
@@ -55,7 +61,13 @@ fn out_of_cells(rt: HostRuntime) -> Result<(), Fail> {
 #[test]
 fn out_of_stamps(rt: HostRuntime) -> Result<(), Fail> {
     let mut cells = vec![in rt.alloc(); None; 2]?;
-    let mut line = make(&mut cells, 2, 1);
+    let mut line = make(
+        &mut cells,
+        Sizes {
+            cells: 2,
+            stamps: 1,
+        },
+    );
     let answer = report(&mut line, b"1 0 0\n2 0 0\n", rt.alloc())?;
     assert_eq!(rt; answer.as_str(), "(refused 13 (line 2) (layer 0))\n");
     Ok(())

@@ -2,48 +2,10 @@
 // leftist heaps.
 #![tactic(auto)]
 
-ghost use Rattle.std.specs.Prelude.{IfOk, string_bytes};
-ghost use Rattle.service_reports.specs.Reports.{Printed};
-
-use elements::{Entry, LineEntry};
-use heap_reports::report_over;
-use leftist::{Link, make};
-use std::alloc::{AllocError, Global};
-use std::io::Read;
-
-const CELLS: u16 = 4096;
-
-const STAMPS: u16 = 32768;
-
-// What is printed for the text.
-fn printed(text: &[u8], heap: Global) -> Result<String, AllocError>
-    ensures { IfOk result (λ s. Printed 4096 32768 text.now (string_bytes s)) }
-{
-    let link = Link {
-        left: None,
-        right: None,
-        rank: 0,
-    };
-    let element = LineEntry {
-        order: 0,
-        urgency: 0,
-        due: 0,
-    };
-    let mut links = vec![in heap; link; 4096]?;
-    let mut entries = vec![in heap; Entry { element, stamp: 0 }; 4096]?;
-    let store = make(&mut links, &mut entries, CELLS, STAMPS);
-    report_over(store, text, heap)
-}
-
-fn run(rt: &HostRuntime) -> anyhow::Result<()> {
-    let heap = rt.alloc();
-    let mut text = Vec::new(heap);
-    let _ = rt.stdin().read_to_end(&mut text)?;
-    let answer = printed(&text, heap)?;
-    rt.print(answer)?;
-    Ok(())
-}
+use heap_reports::printed;
+use leftist::Link;
+use waiting_line_runs::run;
 
 fn main(rt: HostRuntime) -> anyhow::Result<()> {
-    run(&rt)
+    run(&rt, printed::<Link>)
 }

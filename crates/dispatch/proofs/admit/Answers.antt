@@ -6,20 +6,11 @@ use Rattle.dispatch.proofs.admit.Goals as goal
 pub loop-index-init : goal.loop-index-init
 loop-index-init g c = (c.requires, admitted_none line_le _)
 
-pub put-requires : goal.put-requires
-put-requires g c = c.loop-index.invariant.0
-
-pub returns-in-Err : goal.returns-in-Err
-returns-in-Err g c = record {
-  sound = c.put.ensures.sound;
-  effect = rejected line_le _ _ _ _ _ _ c.loop-index-test.true c.loop-index.invariant.1 c.in-Err.refusal c.in-Err.ensures.effect (ap g.A.Store.meaning c.in-Err.ensures.refused);
-}
+pub returns-in-Err-clause-effect : goal.returns-in-Err-clause-effect
+returns-in-Err-clause-effect g c = rejected line_le _ _ _ _ _ _ c.loop-index-test.true c.loop-index.invariant.1 c.in-Err.refusal c.in-Err.ensures.effect (ap g.A.Store.meaning c.in-Err.ensures.refused)
 
 pub loop-index-preserved : goal.loop-index-preserved
-loop-index-preserved g c = (c.put.ensures.sound, admitted_more line_le _ _ _ _ _ _ c.loop-index-test.true c.loop-index.invariant.1 _ c.in-Ok.ensures.effect)
+loop-index-preserved g c = (c.put.ensures.sound, admitted_more line_le _ _ _ _ _ _ c.loop-index-test.true c.loop-index.invariant.1 _ c.in_default.ensures.effect)
 
-pub returns : goal.returns
-returns g c = record {
-  sound = c.loop-index.invariant.0;
-  effect = admitted_all line_le _ _ _ _ c.loop-index-test.false c.loop-index.invariant.1;
-}
+pub returns-clause-effect : goal.returns-clause-effect
+returns-clause-effect g c = admitted_all line_le _ _ _ _ c.loop-index-test.false c.loop-index.invariant.1

@@ -10,8 +10,5 @@ serving-preserved g c = (
   omega (arith, one_less line_le _ _ _ _ c.serving.invariant.1 c.in-Some.entry c.in-Some.ensures.effect),
 )
 
-pub returns : goal.returns
-returns g c = record {
-  sound = c.take_front.ensures.sound;
-  effect = served line_le _ _ _ _ c.serving.invariant.1 c.in_default.ensures.effect;
-}
+pub returns-clause-effect : goal.returns-clause-effect
+returns-clause-effect g c = served line_le _ _ _ _ c.serving.invariant.1 c.in_default.ensures.effect

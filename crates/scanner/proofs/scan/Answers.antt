@@ -1,39 +1,29 @@
-use Rattle.std.proofs.lemmas.List.{take_rest}
-use Rattle.scanner.proofs.Scanning.{at_start, at_same, at_numeral, no_numeral, no_room, at_byte, no_byte, all_read, more_left, fewer_gaps}
+use Rattle.std.proofs.Common.{ℕ, sym, subst, arith, length-set}
+use Rattle.std.proofs.lemmas.Bool.{eqb-true}
+use Rattle.std.proofs.lemmas.List.{nil_from_length}
+use Rattle.scanner.specs.Templates.{Scans}
+use Rattle.scanner.proofs.Cutting.{part_behind}
+use Rattle.scanner.proofs.Scanning.{at_numeral, no_numeral, at_byte, all_read}
 use Rattle.scanner.proofs.scan.Goals as goal
-use Rattle.scanner.proofs.scan.Goals.{then-byte-eq-GAP+else-count+in-Some, else-byte-eq-GAP+else-not-stands, else-at-line-via-then-at-line+else-count-2, else-at-line-via-else-at-line}
+use Rattle.scanner.proofs.scan.Goals.{then-byte-eq-GAP+else-count+in_ok-token, else-byte-eq-GAP+in_ok-rest}
 
-pub loop-byte-init : goal.loop-byte-init
-loop-byte-init g c = at_start _ _ _
-
-pub returns-then-count : goal.returns-then-count
-returns-then-count g c = no_room _ _ _ _ _ _ _ c.loop-byte.invariant c.loop-byte-test.true c.if-byte-eq-GAP.true c.if-count.true
-
-pub returns-in-None : goal.returns-in-None
-returns-in-None g c =
-    no_numeral _ _ _ _ _ _ _ c.loop-byte.invariant c.loop-byte-test.true c.if-byte-eq-GAP.true _ (take_rest c.args.line.now c.loop-byte.at) c.in-None.ensures
-
-pub returns-then-not-stands : goal.returns-then-not-stands
-returns-then-not-stands g c = no_byte _ _ _ _ _ _ _ c.loop-byte.invariant c.loop-byte-test.true c.if-byte-eq-GAP.false c.if-not-stands.ensures
+pub returns-in_err-token : goal.returns-in_err-token
+returns-in_err-token g c =
+    subst (Scans g.row.N c.args.template.now c.args.line.now) (sym c.from_residual.ensures) (no_numeral _ _ _ _ _ _ c.loop-byte.invariant.1 c.loop-byte-test.true c.if-byte-eq-GAP.true g.row.N c.in_err-token.ensures)
 
 pub loop-byte-preserved : goal.loop-byte-preserved
 loop-byte-preserved g c =
     elim c.if-byte-eq-GAP.branch [
-      | then-byte-eq-GAP+else-count+in-Some w ↦
-          at_same _ _ _ _ _ _ _ _ _ _ w.numbers-is w.at-is w.count-is
-          (at_numeral _ _ _ _ _ _ _ c.loop-byte.invariant c.loop-byte-test.true w.if-byte-eq-GAP.true _ _ _ (take_rest c.args.line.now c.loop-byte.at) w.if-count.false w.in-Some.ensures)
-      | else-byte-eq-GAP+else-not-stands w ↦
-          let f = w.if-not-stands.ensures in
-          at_same _ _ _ _ _ _ _ _ _ _ w.numbers-is w.at-is w.count-is
-          (at_byte _ _ _ _ _ _ _ c.loop-byte.invariant c.loop-byte-test.true w.if-byte-eq-GAP.false f.0 f.1)
+      | then-byte-eq-GAP+else-count+in_ok-token w ↦
+          let found = w.in_ok-token.ensures in
+          let h = at_numeral _ _ _ _ _ _ c.loop-byte.invariant.1 c.loop-byte-test.true w.if-byte-eq-GAP.true _ _ _ (part_behind _ _ _ found.1.rest) (omega arith) found.0 in
+          rw (w.numbers-is, w.rest-is, w.count-is) (omega (arith, length-set {A = ℕ}), h)
+      | else-byte-eq-GAP+in_ok-rest w ↦
+          let h = at_byte _ _ _ _ _ _ c.loop-byte.invariant.1 c.loop-byte-test.true w.if-byte-eq-GAP.false _ w.in_ok-rest.ensures.0 in
+          rw (w.numbers-is, w.rest-is, w.count-is) (c.loop-byte.invariant.0, h)
     ]
 
 pub returns-then-count-2 : goal.returns-then-count-2
-returns-then-count-2 g c = all_read _ _ _ _ _ _ _ c.loop-byte.invariant c.loop-byte-test.false c.if-at-line.true c.if-count-2.true
-
-pub returns-else-at-line : goal.returns-else-at-line
-returns-else-at-line g c =
-    elim c.else-at-line.branch [
-      | else-at-line-via-then-at-line+else-count-2 w ↦ fewer_gaps _ _ _ _ _ _ _ c.loop-byte.invariant c.loop-byte-test.false w.if-count-2.false
-      | else-at-line-via-else-at-line w ↦ more_left _ _ _ _ _ _ _ c.loop-byte.invariant c.loop-byte-test.false w.if-at-line.false
-    ]
+returns-then-count-2 g c =
+    let none = nil_from_length _ (eqb-true _ 0 (sym c.if-is_empty.ensures)) in
+    all_read _ _ _ _ _ _ c.loop-byte.invariant.1 c.loop-byte-test.false none (omega arith)

@@ -2,8 +2,8 @@ use Rattle.std.proofs.Common.{◌∙◌}
 use Rattle.form_texts.proofs.Telling.{last_station_told, last_station_untold}
 use Rattle.script.proofs.forms.read_last_station.Goals as goal
 
-pub returns-in_err-numbers : goal.returns-in_err-numbers
-returns-in_err-numbers c = c.from_residual.ensures ∙ last_station_untold c.args.line.now c.in_err-numbers.ensures
+pub returns-in_err-station : goal.returns-in_err-station
+returns-in_err-station c = c.from_residual.ensures ∙ last_station_untold c.args.line.now c.in_err-station.ensures
 
 pub returns : goal.returns
-returns c = last_station_told c.args.line.now _ c.in_ok-numbers.ensures
+returns c = last_station_told c.args.line.now _ c.in_ok-station.ensures

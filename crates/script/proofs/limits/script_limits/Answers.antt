@@ -1,20 +1,13 @@
-use Rattle.std.proofs.Common.{◌<◌, length, Some, None, sym, ◌∙◌, arith}
-use Rattle.std.proofs.lemmas.Bool.{eqb-true, eqb-false}
-use Rattle.script.proofs.Lines.{script_split}
-use Rattle.script.proofs.Limiting.{limits_more, limits_all}
+use Rattle.std.proofs.Common.{Some, replicate, ap, sym, ◌∙◌}
+use Rattle.scanner.specs.Lines.{lines_of}
+use Rattle.machine.specs.Script.{limits_in}
+use Rattle.script.proofs.Lines.{same_lines}
+use Rattle.script.proofs.Limiting.{limits_more}
 use Rattle.script.proofs.limits.script_limits.Goals as goal
-use Rattle.script.proofs.limits.script_limits.Goals.{in-Some, in-None}
 
-pub lines-preserved : goal.lines-preserved
-lines-preserved c =
-    let rest = c.lines.rest.now in
-    let behind = c.first_line-line.result.rest.now in
-    let some : 0 < length rest = omega (arith, eqb-false (length rest) 0 (sym c.lines-test.ensures)) in
-    let split = script_split rest _ behind (c.first_line-line.ensures.lines some) in
-    elim c.match-read_form.branch [
-      | in-Some w ↦ limits_more _ rest _ behind _ _ (Some w.in-Some.form) c.lines.invariant split w.in-Some.ensures.value (w.limits-is ∙ w.note_limit.ensures)
-      | in-None w ↦ limits_more _ rest _ behind _ _ None c.lines.invariant split w.in-None.ensures.value w.limits-is
-    ]
+pub loop-line-init : goal.loop-line-init
+loop-line-init c =
+    ap (λ ls. limits_in ls (replicate 32 65535)) (ap (λ s. lines_of s.rest.now) c.into_iter-line-iterator.ensures.into_iter_gives ∙ ap lines_of c.of-line-items.ensures ∙ sym (same_lines c.args.script.now))
 
-pub returns : goal.returns
-returns c = limits_all _ c.lines.rest.now _ c.lines.invariant (eqb-true _ 0 (sym c.lines-test.ensures))
+pub loop-line-preserved-in-Some-read_form : goal.loop-line-preserved-in-Some-read_form
+loop-line-preserved-in-Some-read_form c = limits_more _ _ _ _ _ (lines_of c.next.new.self.rest.now) (Some c.in-Some-read_form.form) c.loop-line.invariant c.in-Some.ensures.steps c.in-Some-read_form.ensures.value c.note_limit.ensures

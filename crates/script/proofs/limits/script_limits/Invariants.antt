@@ -1,9 +1,7 @@
-use Rattle.std.proofs.Common.{◌≡◌, length}
-use Rattle.machine.specs.Script.{script_lines, limits_in, script_limits}
+use Rattle.std.proofs.Common.{◌≡◌}
+use Rattle.scanner.specs.Lines.{lines_of}
+use Rattle.machine.specs.Script.{limits_in, script_limits}
 use Rattle.script.proofs.limits.script_limits.Given as goal
 
-abbrev pub invariant-lines : goal.invariant-lines
-invariant-lines l = limits_in (script_lines l.rest) l.limits ≡ script_limits l.script
-
-abbrev pub decreases-lines : goal.decreases-lines
-decreases-lines l = length l.rest
+abbrev pub invariant-loop-line : goal.invariant-loop-line
+invariant-loop-line l = limits_in (lines_of l.line-iterator.rest.now) l.limits ≡ script_limits l.script

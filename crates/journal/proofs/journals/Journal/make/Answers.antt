@@ -1,6 +1,6 @@
 use Rattle.std.proofs.Common.{◌+◌, refl, ap, ◌∙◌, arith}
 use Rattle.journal.specs.Raised.{Over}
-use Rattle.journal.proofs.Raising.{formed_raised}
+use Rattle.journal.specs.Formed.{formed_raised}
 use Rattle.journal.proofs.journals.Journal.make.Goals as goal
 
 pub returns : goal.returns
@@ -10,9 +10,9 @@ returns g c =
     let o = c.over-own.ensures in
     let over : Over g.B.Item.Ordered.le (g.B.Store.sound c.args.below) m c.over-own.result = record {
       below = c.requires.sound;
-      formed = c.requires.formed;
+      formed = g.met.B.Store.formed c.args.below c.requires.sound;
       kept = o.kept;
       above = o.height ∙ ap (λ k. k + 1) h;
       low = omega (arith, o.height, h, c.requires.fit.low);
     } in
-    record { sound = over; formed = formed_raised _ _ over; meaning = refl; used = o.used; history = o.history }
+    record { sound = over; formed = formed_raised over; meaning = refl; used = o.used; history = o.history }

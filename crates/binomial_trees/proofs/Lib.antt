@@ -1,8 +1,0 @@
-pub mod Degrees
-pub mod Lawfulness
-pub mod Joining
-pub mod Carrying
-pub mod Adding
-pub mod LeastRoot
-pub mod Turning
-pub mod TakingOut

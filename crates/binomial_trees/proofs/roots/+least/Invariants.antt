@@ -1,7 +1,0 @@
-use Rattle.std.proofs.Common.{Some}
-use Rattle.forests.proofs.Parting.{extent}
-use Rattle.binomial_trees.specs.Binomial.{cells_of}
-use Rattle.binomial_trees.proofs.roots.+least.Given as goal
-
-abbrev pub decreases-least : goal.decreases-least
-decreases-least g l = extent (cells_of g.T.Ordered.le) l.links.now l.entries.now (Some l.at)

@@ -1,5 +1,0 @@
-use Rattle.binomial_trees.proofs.Degrees.{degrees_are_low}
-use Rattle.binomial_trees.proofs.trees.degrees_are_low.Goals as goal
-
-pub returns : goal.returns
-returns g c = degrees_are_low

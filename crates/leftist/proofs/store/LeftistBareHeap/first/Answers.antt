@@ -1,7 +1,0 @@
-use Rattle.leftist.proofs.store.LeftistBareHeap.first.Goals as goal
-
-pub first-requires : goal.first-requires
-first-requires g c = (_, c.requires)
-
-pub returns : goal.returns
-returns g c = record { answer = c.first.ensures _ c.requires }

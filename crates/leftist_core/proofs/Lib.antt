@@ -1,3 +1,0 @@
-pub mod Lawfulness
-pub mod Melding
-pub mod Taking

@@ -1,0 +1,5 @@
+use Rattle.pairing.proofs.Taking.{front}
+use Rattle.pairing.proofs.heaps.LinkHeapLink.front.Goals as goal
+
+pub returns : goal.returns
+returns g c t h = front g.T.Ordered.le t c.args.root h

@@ -1,4 +1,0 @@
-pub mod Lawfulness
-pub mod Melding
-pub mod Turns
-pub mod Taking

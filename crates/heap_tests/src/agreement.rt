@@ -43,7 +43,10 @@ fn answers_of<S: Store<Item = Event>>(store: &mut S, answers: &mut [Answer])
     }
 }
 
-fn heap_answers<L: HeapLink<Event>>(rt: &impl AllocGlobal, answers: &mut [Answer]) -> Result<(), Fail> {
+fn heap_answers<L: HeapLink<Event>>(
+    rt: &impl AllocGlobal,
+    answers: &mut [Answer],
+) -> Result<(), Fail> {
     let heap = rt.alloc();
     let mut links = vec![in heap; L::idle(None); SIZES.cells as usize]?;
     let mut entries = vec![in heap; blank(); SIZES.cells as usize]?;

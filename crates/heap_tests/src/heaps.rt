@@ -1,9 +1,10 @@
-// Each heap is tried over each form of link.
+// Each trial over each form of heap.
 use crate::calls::blank;
 use crate::trials::Trial;
 use cells::HeapLink;
 use elements::Event;
 use heap_store::{fits, make};
+use std::process::Abort;
 use std::test::Fail;
 use stores::Sizes;
 
@@ -18,35 +19,34 @@ fn tried<L: HeapLink<Event>>(rt: &impl AllocGlobal, trial: Trial) -> Result<(), 
     trial.run(&mut store)
 }
 
-// The trial over each form of heap. A failure names the heap.
+// The same over each form of heap.
 fn on_each_heap(rt: &impl AllocGlobal, trial: Trial) -> Result<(), Fail> {
     tried::<leftist::Link>(rt, trial)?;
     tried::<pairing::Link>(rt, trial)?;
     tried::<binomial::Link>(rt, trial)
 }
 
-// Whether a store of so many cells and stamps can be made over two slices of two cells.
-fn two_fit<L: HeapLink<Event>>(cells: u16, stamps: u16) -> bool {
-    let links = [L::idle(None); 2];
+// Whether a store of so many cells and stamps can be made over these links, of which there are two.
+fn two_fit<L>(links: &[L], cells: u16, stamps: u16) -> bool {
     let entries = [blank(); 2];
-    fits(&links, &entries, Sizes { cells, stamps }).is_ok()
+    fits(links, &entries, Sizes { cells, stamps }).is_ok()
 }
 
-fn sizes_fit<L: HeapLink<Event>>(rt: &impl Abort) {
-    assert!(rt; two_fit::<L>(2, 1));
-    assert!(rt; two_fit::<L>(2, 32768));
-    assert!(rt; !two_fit::<L>(2, 0));
-    assert!(rt; !two_fit::<L>(2, 32769));
-    assert!(rt; !two_fit::<L>(1, 1));
-    assert!(rt; !two_fit::<L>(3, 1));
-    assert!(rt; !two_fit::<L>(0, 1));
+fn sizes_fit<L>(rt: &impl Abort, links: &[L]) {
+    assert!(rt; two_fit(links, 2, 1));
+    assert!(rt; two_fit(links, 2, 32768));
+    assert!(rt; !two_fit(links, 2, 0));
+    assert!(rt; !two_fit(links, 2, 32769));
+    assert!(rt; !two_fit(links, 1, 1));
+    assert!(rt; !two_fit(links, 3, 1));
+    assert!(rt; !two_fit(links, 0, 1));
 }
 
 #[test]
 fn sizes_that_fit(rt: HostRuntime) {
-    sizes_fit::<leftist::Link>(&rt);
-    sizes_fit::<pairing::Link>(&rt);
-    sizes_fit::<binomial::Link>(&rt);
+    sizes_fit(&rt, &[leftist::Link::idle(None); 2]);
+    sizes_fit(&rt, &[pairing::Link::idle(None); 2]);
+    sizes_fit(&rt, &[binomial::Link::idle(None); 2]);
 }
 
 #[test]

@@ -6,7 +6,7 @@ use piles::{journal_over_quota, journal_over_quota_over_lazy};
 use records::Record;
 use std::test::Fail;
 use store_checks::{Answer, Call, cancelled, passes};
-use stores::{Agenda, BareHeap};
+use stores::{Sizes, Store};
 
 // The kind of change, and its two numbers.
 fn told(change: Option<Change>) -> (u8, u16, u16) {
@@ -33,7 +33,17 @@ fn last_changes_are_kept(rt: HostRuntime) -> Result<(), Fail> {
         (Call::Take(0), Answer::Order(7)),
         (Call::Cancel(1), Answer::Number(0)),
     ];
-    match journal_over_quota(table::make(&mut cells, 4, 8), [1; 32], 3) {
+    match journal_over_quota(
+        table::make(
+            &mut cells,
+            Sizes {
+                cells: 4,
+                stamps: 8,
+            },
+        ),
+        [1; 32],
+        3,
+    ) {
         Ok(made) => {
             let mut store = made;
             passes(&mut store, &script)?;
@@ -50,7 +60,18 @@ fn last_changes_are_kept(rt: HostRuntime) -> Result<(), Fail> {
 // Whether a journal may have so many places.
 fn places_allowed(used: u16) -> bool {
     let mut cells: [Option<Record<LineEntry>>; 1] = [None; 1];
-    journal_over_quota(table::make(&mut cells, 1, 1), [1; 32], used).is_ok()
+    journal_over_quota(
+        table::make(
+            &mut cells,
+            Sizes {
+                cells: 1,
+                stamps: 1,
+            },
+        ),
+        [1; 32],
+        used,
+    )
+    .is_ok()
 }
 
 #[test]
@@ -63,11 +84,7 @@ fn places_are_tested(rt: HostRuntime) {
 
 #[test]
 fn whole_pile_over_a_heap(rt: HostRuntime) -> Result<(), Fail> {
-    let mut links = [Link {
-        left: None,
-        right: None,
-        rank: 0,
-    }; 4];
+    let mut links = [Link::idle(None); 4];
     let mut entries = [Entry {
         element: LineEntry {
             order: 0,
@@ -76,7 +93,14 @@ fn whole_pile_over_a_heap(rt: HostRuntime) -> Result<(), Fail> {
         },
         stamp: 0,
     }; 4];
-    let heap = leftist::make(&mut links, &mut entries, 4, 4);
+    let heap = leftist::make(
+        &mut links,
+        &mut entries,
+        Sizes {
+            cells: 4,
+            stamps: 4,
+        },
+    );
     match journal_over_quota_over_lazy(heap, [65535; 32], 2) {
         Ok(made) => {
             let mut store = made;

@@ -10,10 +10,12 @@ use heap_reports::report_over;
 use leftist::{Link, make};
 use std::alloc::{AllocError, Global};
 use std::io::Read;
+use stores::Sizes;
 
-const CELLS: u16 = 4096;
-
-const STAMPS: u16 = 32768;
+const SIZES: Sizes = Sizes {
+    cells: 4096,
+    stamps: 32768,
+};
 
 // What is printed for the text.
 fn printed(text: &[u8], heap: Global) -> Result<String, AllocError>
@@ -31,7 +33,7 @@ fn printed(text: &[u8], heap: Global) -> Result<String, AllocError>
     };
     let mut links = vec![in heap; link; 4096]?;
     let mut entries = vec![in heap; Entry { element, stamp: 0 }; 4096]?;
-    let store = make(&mut links, &mut entries, CELLS, STAMPS);
+    let store = make(&mut links, &mut entries, SIZES);
     report_over(store, text, heap)
 }
 

@@ -6,7 +6,7 @@ use piles::{journal_over_quota, journal_over_quota_over_lazy};
 use records::Record;
 use std::test::Fail;
 use store_checks::{Answer, Call, cancelled, passes};
-use stores::{Sizes, Store};
+use stores::{Agenda, BareHeap};
 
 // The kind of change, and its two numbers.
 fn told(change: Option<Change>) -> (u8, u16, u16) {
@@ -33,17 +33,7 @@ fn last_changes_are_kept(rt: HostRuntime) -> Result<(), Fail> {
         (Call::Take(0), Answer::Order(7)),
         (Call::Cancel(1), Answer::Number(0)),
     ];
-    match journal_over_quota(
-        table::make(
-            &mut cells,
-            Sizes {
-                cells: 4,
-                stamps: 8,
-            },
-        ),
-        [1; 32],
-        3,
-    ) {
+    match journal_over_quota(table::make(&mut cells, 4, 8), [1; 32], 3) {
         Ok(made) => {
             let mut store = made;
             passes(&mut store, &script)?;
@@ -60,18 +50,7 @@ fn last_changes_are_kept(rt: HostRuntime) -> Result<(), Fail> {
 // Whether a journal may have so many places.
 fn places_allowed(used: u16) -> bool {
     let mut cells: [Option<Record<LineEntry>>; 1] = [None; 1];
-    journal_over_quota(
-        table::make(
-            &mut cells,
-            Sizes {
-                cells: 1,
-                stamps: 1,
-            },
-        ),
-        [1; 32],
-        used,
-    )
-    .is_ok()
+    journal_over_quota(table::make(&mut cells, 1, 1), [1; 32], used).is_ok()
 }
 
 #[test]
@@ -93,14 +72,11 @@ fn whole_pile_over_a_heap(rt: HostRuntime) -> Result<(), Fail> {
         },
         stamp: 0,
     }; 4];
-    let heap = leftist::make(
-        &mut links,
-        &mut entries,
-        Sizes {
-            cells: 4,
-            stamps: 4,
-        },
-    );
+    let sizes = stores::Sizes {
+        cells: 4,
+        stamps: 4,
+    };
+    let heap = leftist::make(&mut links, &mut entries, sizes);
     match journal_over_quota_over_lazy(heap, [65535; 32], 2) {
         Ok(made) => {
             let mut store = made;

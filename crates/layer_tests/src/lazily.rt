@@ -4,7 +4,7 @@ use lazy::Lazy;
 use leftist::{Link, fits, make};
 use std::test::Fail;
 use store_checks::{Answer, Call, FULL, MELDED, ORDERED, SPENT, cancelled, passes};
-use stores::{Sizes, Store};
+use stores::Store;
 
 const BLANK: LineEntry = LineEntry {
     order: 0,
@@ -19,7 +19,7 @@ fn run(
     script: &[(Call, Answer)],
 ) -> Result<(), Fail> {
     let heap = rt.alloc();
-    let sizes = Sizes { cells, stamps };
+    let sizes = stores::Sizes { cells, stamps };
     let mut links = vec![in heap; Link::idle(None); cells as usize]?;
     let mut entries = vec![in heap; Entry {
         element: BLANK,
@@ -96,14 +96,11 @@ fn used_heap_is_not_fresh(rt: HostRuntime) -> Result<(), Fail> {
         element: BLANK,
         stamp: 0,
     }; 1];
-    let mut store = make(
-        &mut links,
-        &mut entries,
-        Sizes {
-            cells: 1,
-            stamps: 2,
-        },
-    );
+    let sizes = stores::Sizes {
+        cells: 1,
+        stamps: 2,
+    };
+    let mut store = make(&mut links, &mut entries, sizes);
     let _ = store.put(0, BLANK);
     let _ = store.take(0);
     match Lazy::fits(&store) {

@@ -4,22 +4,11 @@ use piles::quota_over_quota;
 use records::Record;
 use std::test::Fail;
 use store_checks::{Answer, Call, passes};
-use stores::Sizes;
 use table::make;
 
 fn run(inner: u16, outer: u16, script: &[(Call, Answer)]) -> Result<(), Fail> {
     let mut cells: [Option<Record<LineEntry>>; 4] = [None; 4];
-    match quota_over_quota(
-        make(
-            &mut cells,
-            Sizes {
-                cells: 4,
-                stamps: 8,
-            },
-        ),
-        [inner; 32],
-        [outer; 32],
-    ) {
+    match quota_over_quota(make(&mut cells, 4, 8), [inner; 32], [outer; 32]) {
         Ok(made) => {
             let mut store = made;
             passes(&mut store, script)

@@ -1,5 +1,6 @@
 -- Two forests become one: in either order, where one is empty, and where a tree goes before a forest.
-use Rattle.std.proofs.Common.{◌≡◌, ℕ, ◌+◌, ◌<◌, ◌≤◌, List, length, get_or, set, Some, None, Option, sym, refl, ap, ◌∙◌, subst, arith, Bool}
+use Rattle.std.specs.Option.{option_or}
+use Rattle.std.proofs.Common.{◌≡◌, ◌⊎◌, inl, inr, ℕ, ◌+◌, ◌<◌, ◌≤◌, List, length, get_or, set, Some, None, Option, sym, refl, ap, ◌∙◌, subst, arith, Bool}
 use Rattle.std.proofs.lemmas.List.{get_or-set_other}
 use Rattle.std.proofs.lemmas.Bool.Decides.{nat_tests}
 use Rattle.elements.specs.declared.entries.Entry.{Entry}
@@ -58,6 +59,12 @@ module _ {T K : Type 0} {le : T → T → Bool} (L : Layout le K) where
 
     pub added_none_second : {P Q : Tree (Entry T) → Type 0} {ls : List K} {es : List (Entry T)} {a b c : Option ℕ} (s t : Tree (Entry T)) → b ≡ None → a ≡ c → Apart L P Q ls es a b s t → Added L P ls es s t ls c
     added_none_second {P} {ls = ls} {es = es} s t none at p = subst (λ o. Added L P ls es s t ls o) at (added_unswapped p (added_none t s none (apart_swapped p)))
+
+    -- where one is empty, the other is all
+    pub added_one : {P : Tree (Entry T) → Type 0} {ls : List K} {es : List (Entry T)} {a b r : Option ℕ} (s t : Tree (Entry T)) → (a ≡ None) ⊎ (b ≡ None) → r ≡ option_or a b → Apart L P P ls es a b s t → Added L P ls es s t ls r
+    added_one {P = P} {ls = ls} {es = es} {a = a} {b = b} s t (inl e) is p = subst (λ o. Added L P ls es s t ls o) (sym (is ∙ ap (λ o. option_or o b) e)) (added_none s t e p)
+    added_one {P = P} {ls = ls} {es = es} {a = None} {b = b} s t (inr e) is p = subst (λ o. Added L P ls es s t ls o) (sym is) (added_none s t refl p)
+    added_one {a = Some i} {b = b} s t (inr e) is p = added_none_second s t e (sym is) p
 
     -- the tree at i goes before the forest at b
     module _ {Q : Tree (Entry T) → Type 0} (R : Tree (Entry T) → Type 0) (ls : List K) (es : List (Entry T)) (i : ℕ) (b : Option ℕ) (s t : Tree (Entry T)) (o : Rooted L ls es i s) (behind : StoredAt (shaped L Q) ls es b t) (cells : (k : ℕ) → uses s k + uses t k ≤ 1) where

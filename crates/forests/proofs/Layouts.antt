@@ -1,8 +1,8 @@
 -- The heaps of a consistent layout have what is asked of every form of heap.
-use Rattle.std.proofs.Common.{◌≡◌, ℕ, Some, Option, refl, Bool}
+use Rattle.std.proofs.Common.{ℕ, refl, Bool}
 use Rattle.elements.specs.declared.entries.Entry.{Entry}
 use Rattle.elements.specs.Order.{Strict, precedes_by, stamp_of}
-use Rattle.cells.specs.Trees.{Tree, leaf, node, root}
+use Rattle.cells.specs.Trees.{Tree, leaf, node}
 use Rattle.cells.specs.Lawful.{Lawful}
 use Rattle.forests.specs.Forests.{Layout, shaped}
 use Rattle.forests.specs.Layouts.{Consistent}

@@ -12,10 +12,10 @@ use Rattle.forests.specs.Parts.{Apart, Rooted, Joined, Added}
 use Rattle.forests.proofs.Listing.{list_lone, tally_first, tally_lone}
 use Rattle.forests.proofs.Parting.{kept, reshaped, siblings_at, rooted, beside}
 use Rattle.forests.proofs.Adding.{rooted_kept, prepended}
-use Rattle.binomial.specs.Binomial.{trees, Children, Lone, Rising, Twins, binomial, cells_of, no_link, before_next}
+use Rattle.binomial.specs.Binomial.{trees, Children, Lone, Rising, binomial, cells_of, no_link, before_next}
 use Rattle.binomial.specs.declared.links.Link.{Link}
 use Rattle.binomial.specs.Lawful.{laid}
-use Rattle.binomial.proofs.Joining.{children_of}
+use Rattle.binomial.proofs.Joining.{Twins, children_of}
 use Rattle.binomial.proofs.Carrying.{lower}
 
 -- two heaps that can be melded are two lists of trees of rising degrees

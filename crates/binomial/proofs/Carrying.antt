@@ -11,10 +11,10 @@ use Rattle.forests.specs.Parts.{Apart, Rooted, Joined, Added}
 use Rattle.forests.proofs.Listing.{list_lone, tally_first, tally_lone}
 use Rattle.forests.proofs.Parting.{reshaped, built_shaped, siblings_at, rooted, rooted_lone, beside}
 use Rattle.forests.proofs.Adding.{apart_swapped, added_none, added_unswapped, prepended}
-use Rattle.binomial.specs.Binomial.{trees, Children, Lone, Rising, Twins, cells_of, no_link, before_next}
+use Rattle.binomial.specs.Binomial.{trees, Children, Lone, Rising, cells_of, no_link, before_next}
 use Rattle.binomial.specs.declared.links.Link.{Link}
 use Rattle.binomial.specs.Lawful.{laid}
-use Rattle.binomial.proofs.Joining.{children_of}
+use Rattle.binomial.proofs.Joining.{Twins, children_of}
 
 lone_before : {A : Type 0} (k : ℕ) (t : Tree A) → Lone k t → Before leaf t
 lone_before k leaf h = h

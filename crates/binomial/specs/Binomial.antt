@@ -1,11 +1,11 @@
 -- Binomial heaps: their shape and their links.
-use Rattle.std.specs.Prelude.{◌≡◌, ℕ, ◌+◌, ◌^◌, ◌≤◌, Bool, true, ◌⊎◌, List, Some, None, Option}
+use Rattle.std.specs.Prelude.{◌≡◌, ℕ, ◌+◌, ◌^◌, ◌<◌, ◌≤◌, Bool, true, ◌⊎◌, List, Some, None, Option}
 use Rattle.elements.specs.declared.entries.Entry.{Entry}
 use Rattle.elements.specs.Order.{precedes_by}
 use Rattle.cells.specs.Trees.{Tree, leaf, node, root, size, uses}
 use Rattle.cells.specs.Forms.{Form}
 use Rattle.forests.specs.Forests.{Layout, Over, listed, shaped}
-use Rattle.forests.specs.Parts.{Joinable, Parted}
+use Rattle.forests.specs.Parts.{Parted}
 use Rattle.binomial.specs.declared.links.Link.{Link}
 
 -- how many trees the forest has; a root's degree is the number of its children
@@ -55,9 +55,8 @@ over_child k o = record { child = o; next = k.next; degree = k.degree + 1 }
 abbrev pub idle_to : Option ℕ → Link
 idle_to o = record { child = None; next = o; degree = 0 }
 
-abbrev pub cells_of : {T : Type 0} → (T → T → Bool) → Layout T Link
+abbrev pub cells_of : {T : Type 0} (le : T → T → Bool) → Layout le Link
 cells_of le = record {
-  le = le;
   link = link_of;
   child = λ (k : Link). k.child;
   next = λ (k : Link). k.next;
@@ -71,11 +70,9 @@ cells_of le = record {
 abbrev pub binomial : {T : Type 0} (le : T → T → Bool) → Form le Link
 binomial le = shaped (cells_of le) (Rising 0)
 
--- two trees of degree k that can be joined
-pub record Twins {T : Type 0} (le : T → T → Bool) (ls : List Link) (es : List (Entry T)) (k i j : ℕ) (s t : Tree (Entry T)) : Type 0 where
-  pub joinable : Joinable (cells_of le) ls es i j None s t leaf
-  pub one : Lone k s
-  pub two : Lone k t
+-- one more child can be counted
+abbrev pub HasRoom : Link → Type 0
+HasRoom k = k.degree < 255
 
 -- x is at the root in cell r, and precedes the other roots
 abbrev pub Least : {A : Type 0} → (A → A → Bool) → ℕ → A → Tree A → Type 0

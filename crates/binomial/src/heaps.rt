@@ -1,17 +1,42 @@
 // The heaps of a store: the front entry is at the least root, and the children of a root that leaves are melded with the
 // other trees.
-ghost use Rattle.binomial.specs.Binomial.{binomial};
-ghost use Rattle.binomial.specs.Lawful.{lawful};
+ghost use Rattle.binomial.specs.Binomial.{HasRoom, binomial, cells_of};
+ghost use Rattle.binomial.specs.Lawful.{laid, lawful};
 
 use crate::links::Link;
 use crate::roots::{least, take_out, turn_over};
 use crate::trees;
 use cells::HeapLink;
 use elements::{Entry, Ordered};
+use forests::ForestLink;
 use heap_store::HeapStore;
 
 // A store of 32 queues, each a binomial heap.
 pub type Binomial<'a, T> = HeapStore<'a, Link, T>;
+
+impl<T: Ordered + Copy> ForestLink<T> for Link {
+    ghost layout = { cells_of };
+
+    ghost has_room = { HasRoom };
+
+    fn child(&self) -> Option<u16> {
+        self.child
+    }
+
+    fn before(self, next: Option<u16>) -> Link {
+        Link { next, ..self }
+    }
+
+    fn over(self, kid: u16) -> Link {
+        Link {
+            child: Some(kid),
+            degree: self.degree + 1,
+            ..self
+        }
+    }
+
+    ghost consistent = { laid T.Ordered.le };
+}
 
 impl<T: Ordered + Copy> HeapLink<T> for Link {
     ghost form = { binomial };

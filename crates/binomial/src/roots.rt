@@ -8,8 +8,8 @@ ghost use Rattle.forests.specs.Parts.{ForestAt};
 ghost use Rattle.binomial.specs.Binomial.{binomial, cells_of, Children, Least, Rising, TakenOut};
 
 use crate::links::Link;
-use crate::trees::set_next;
 use elements::{Entry, Ordered, precedes};
+use forests::set_next;
 
 // The cell of the root that precedes the others from `at` on.
 pub fn least<T: Ordered + Copy>(links: &[Link], entries: &[Entry<T>], at: u16) -> u16
@@ -38,14 +38,14 @@ pub fn take_out<T: Ordered + Copy>(links: &mut [Link], at: u16, i: u16) -> Optio
 {
     let next = links[at as usize].next;
     if at == i {
-        set_next(links, i, None);
+        set_next::<Link, T>(links, i, None);
         return next;
     }
     match next {
         None => Some(at),
         Some(j) => {
             let others = take_out::<T>(links, j, i);
-            set_next(links, at, others);
+            set_next::<Link, T>(links, at, others);
             Some(at)
         }
     }
@@ -60,7 +60,7 @@ pub fn turn_over<T: Ordered + Copy>(links: &mut [Link], children: Option<u16>) -
     let mut turned = None;
     'children: while let Some(i) = rest {
         rest = links[i as usize].next;
-        set_next(links, i, turned);
+        set_next::<Link, T>(links, i, turned);
         turned = Some(i);
     }
     turned

@@ -1,5 +1,5 @@
 -- Forests in slices: what stays, what is read back, and how one forest is divided into two, tree by tree.
-use Rattle.std.proofs.Common.{◌≡◌, ℕ, ◌+◌, ◌<◌, ◌≤◌, List, length, get_or, set, Some, None, Option, sym, refl, ap, ◌∙◌, subst, arith, length-set}
+use Rattle.std.proofs.Common.{◌≡◌, ℕ, ◌+◌, ◌<◌, ◌≤◌, List, length, get_or, set, Some, None, Option, sym, refl, ap, ◌∙◌, subst, arith, length-set, Bool}
 use Rattle.std.proofs.lemmas.List.{get_or-set_same, get_or-set_other}
 use Rattle.std.proofs.lemmas.Bool.Decides.{nat_tests}
 use Rattle.elements.specs.declared.entries.Entry.{Entry}
@@ -14,7 +14,7 @@ use Rattle.forests.specs.Parts.{ForestAt, Apart, Parted, Rooted}
 use Rattle.forests.specs.Layouts.{Consistent}
 use Rattle.forests.proofs.Listing.{list_moved, tally_first}
 
-module _ {T K : Type 0} (L : Layout T K) where
+module _ {T K : Type 0} {le : T → T → Bool} (L : Layout le K) where
   -- how many nodes the forest at a has that is read from the slices
   abbrev pub extent : List K → List (Entry T) → Option ℕ → ℕ
   extent ls es a = size (tree_at L.child L.next L.none ls es 4096 a)
@@ -30,7 +30,7 @@ module _ {T K : Type 0} (L : Layout T K) where
   built_shaped f m = record { tree = m.tree; stored_at = reshaped (f m.tree) m.stored_at; lists = m.lists; cells = m.cells; counts = m.counts; others = m.others }
 
   -- a forest that is built of another one that was built
-  pub built_then : {P Q : Tree (Entry T) → Type 0} {ls ls₁ ls₂ : List K} {es list : List (Entry T)} {own : ℕ → ℕ} {count : ℕ} {a r : Option ℕ} → (m : Built (shaped L P) ls es list own count ls₁ a) → Built (shaped L Q) ls₁ es (listed (precedes_by L.le) m.tree) (uses m.tree) (size m.tree) ls₂ r → Built (shaped L Q) ls es list own count ls₂ r
+  pub built_then : {P Q : Tree (Entry T) → Type 0} {ls ls₁ ls₂ : List K} {es list : List (Entry T)} {own : ℕ → ℕ} {count : ℕ} {a r : Option ℕ} → (m : Built (shaped L P) ls es list own count ls₁ a) → Built (shaped L Q) ls₁ es (listed (precedes_by le) m.tree) (uses m.tree) (size m.tree) ls₂ r → Built (shaped L Q) ls es list own count ls₂ r
   built_then m n = record {
     tree = n.tree;
     stored_at = n.stored_at;
@@ -41,7 +41,7 @@ module _ {T K : Type 0} (L : Layout T K) where
   }
 
   -- what was built can be used as a forest again
-  pub built_forest : {P : Tree (Entry T) → Type 0} {ls ls' : List K} {es : List (Entry T)} {a b : Option ℕ} {t : Tree (Entry T)} {Q : Tree (Entry T) → Type 0} → ForestAt L Q ls es a t → (m : Built (shaped L P) ls es (listed (precedes_by L.le) t) (uses t) (size t) ls' b) → ForestAt L P ls' es b m.tree
+  pub built_forest : {P : Tree (Entry T) → Type 0} {ls ls' : List K} {es : List (Entry T)} {a b : Option ℕ} {t : Tree (Entry T)} {Q : Tree (Entry T) → Type 0} → ForestAt L Q ls es a t → (m : Built (shaped L P) ls es (listed (precedes_by le) t) (uses t) (size t) ls' b) → ForestAt L P ls' es b m.tree
   built_forest f m = record {
     stored_at = m.stored_at;
     cells = λ k. omega (arith, m.cells k, f.cells k);
@@ -101,14 +101,14 @@ module _ {T K : Type 0} (L : Layout T K) where
           ordered = h.stored.valid.1;
         })
 
-    module _ (law : Strict (precedes_by L.le) (stamp_of {T = T})) where
+    module _ (law : Strict (precedes_by le) (stamp_of {T = T})) where
       -- nothing is moved yet
-      pub part_start : {P Q : Tree (Entry T) → Type 0} {ls : List K} {es : List (Entry T)} {a : Option ℕ} {t : Tree (Entry T)} → Q leaf → ForestAt L P ls es a t → Parted L P Q ls es (listed (precedes_by L.le) t) (uses t) (size t) ls a None
+      pub part_start : {P Q : Tree (Entry T) → Type 0} {ls : List K} {es : List (Entry T)} {a : Option ℕ} {t : Tree (Entry T)} → Q leaf → ForestAt L P ls es a t → Parted L P Q ls es (listed (precedes_by le) t) (uses t) (size t) ls a None
       part_start {t = t} shape f = record {
         first = t;
         second = leaf;
         apart = record { one = f.stored_at; two = record { at = refl; stored = record { linked = tt; held = tt; valid = (shape, tt) } }; cells = λ k. omega (arith, f.cells k); stamps = λ k. omega (arith, f.stamps k); few = omega (arith, f.few) };
-        lists = merge-nil (precedes_by L.le) (listed (precedes_by L.le) t);
+        lists = merge-nil (precedes_by le) (listed (precedes_by le) t);
         cells = λ k. omega arith;
         counts = omega arith;
         others = λ k z. refl;
@@ -121,14 +121,14 @@ module _ {T K : Type 0} (L : Layout T K) where
           record {
             tree = p.second;
             stored_at = p.apart.two;
-            lists = sym (ap (λ x. merge (precedes_by L.le) (listed (precedes_by L.le) x) (listed (precedes_by L.le) p.second)) z) ∙ p.lists;
+            lists = sym (ap (λ x. merge (precedes_by le) (listed (precedes_by le) x) (listed (precedes_by le) p.second)) z) ∙ p.lists;
             cells = λ k. omega (arith, p.cells k, ap (λ x. uses x k) z);
             counts = omega (arith, p.counts, ap size z);
             others = p.others;
           }
 
       -- one division after another
-      part_then : {P Q P' Q' : Tree (Entry T) → Type 0} {ls ls₁ ls₂ : List K} {es list : List (Entry T)} {own : ℕ → ℕ} {count : ℕ} {a b a' b' : Option ℕ} → (p : Parted L P Q ls es list own count ls₁ a b) → Parted L P' Q' ls₁ es (merge (precedes_by L.le) (listed (precedes_by L.le) p.first) (listed (precedes_by L.le) p.second)) (λ k. uses p.first k + uses p.second k) (size p.first + size p.second) ls₂ a' b' → Parted L P' Q' ls es list own count ls₂ a' b'
+      part_then : {P Q P' Q' : Tree (Entry T) → Type 0} {ls ls₁ ls₂ : List K} {es list : List (Entry T)} {own : ℕ → ℕ} {count : ℕ} {a b a' b' : Option ℕ} → (p : Parted L P Q ls es list own count ls₁ a b) → Parted L P' Q' ls₁ es (merge (precedes_by le) (listed (precedes_by le) p.first) (listed (precedes_by le) p.second)) (λ k. uses p.first k + uses p.second k) (size p.first + size p.second) ls₂ a' b' → Parted L P' Q' ls es list own count ls₂ a' b'
       part_then p q = record {
         first = q.first;
         second = q.second;
@@ -147,8 +147,8 @@ module _ {T K : Type 0} (L : Layout T K) where
         pub first_apart : Apart L P Q ls es (Some i) b (node i first_node.entry first_node.left first_node.right) p.second
         first_apart = subst (λ z. Apart L P Q ls es (Some i) b z p.second) first_node.is (subst (λ o. Apart L P Q ls es o b p.first p.second) at p.apart)
 
-        pub first_back : {P' Q' : Tree (Entry T) → Type 0} {ls₁ : List K} {a' b' : Option ℕ} → Parted L P' Q' ls es (merge (precedes_by L.le) (listed (precedes_by L.le) (node i first_node.entry first_node.left first_node.right)) (listed (precedes_by L.le) p.second)) (λ k. uses (node i first_node.entry first_node.left first_node.right) k + uses p.second k) (size (node i first_node.entry first_node.left first_node.right) + size p.second) ls₁ a' b' → Parted L P' Q' ls₀ es list own count ls₁ a' b'
-        first_back {P'} {Q'} {ls₁} {a'} {b'} q = part_then p (subst (λ z. Parted L P' Q' ls es (merge (precedes_by L.le) (listed (precedes_by L.le) z) (listed (precedes_by L.le) p.second)) (λ k. uses z k + uses p.second k) (size z + size p.second) ls₁ a' b') (sym first_node.is) q)
+        pub first_back : {P' Q' : Tree (Entry T) → Type 0} {ls₁ : List K} {a' b' : Option ℕ} → Parted L P' Q' ls es (merge (precedes_by le) (listed (precedes_by le) (node i first_node.entry first_node.left first_node.right)) (listed (precedes_by le) p.second)) (λ k. uses (node i first_node.entry first_node.left first_node.right) k + uses p.second k) (size (node i first_node.entry first_node.left first_node.right) + size p.second) ls₁ a' b' → Parted L P' Q' ls₀ es list own count ls₁ a' b'
+        first_back {P'} {Q'} {ls₁} {a'} {b'} q = part_then p (subst (λ z. Parted L P' Q' ls es (merge (precedes_by le) (listed (precedes_by le) z) (listed (precedes_by le) p.second)) (λ k. uses z k + uses p.second k) (size z + size p.second) ls₁ a' b') (sym first_node.is) q)
 
       -- the first tree of one forest goes before the other forest
       module _ {P Q : Tree (Entry T) → Type 0} (P' Q' : Tree (Entry T) → Type 0) (ls : List K) (es : List (Entry T)) (b : Option ℕ) (i : ℕ) (e : Entry T) (c u t : Tree (Entry T)) (p : Apart L P Q ls es (Some i) b (node i e c u) t) (shape-u : P' u) (shape-t : Q' (node i e c t)) where
@@ -164,7 +164,7 @@ module _ {T K : Type 0} (L : Layout T K) where
         pub moved_siblings : StoredAt (shaped L P') last es (L.next (get_or ls i L.none)) u
         moved_siblings = kept long (λ k z. same k (λ y. grind (arith, nat_tests, p.cells k, z, y))) (siblings_at shape-u p.one)
 
-        pub moved_first : Parted L P' Q' ls es (merge (precedes_by L.le) (listed (precedes_by L.le) (node i e c u)) (listed (precedes_by L.le) t)) (λ k. uses (node i e c u) k + uses t k) (size (node i e c u) + size t) last (L.next (get_or ls i L.none)) (Some i)
+        pub moved_first : Parted L P' Q' ls es (merge (precedes_by le) (listed (precedes_by le) (node i e c u)) (listed (precedes_by le) t)) (λ k. uses (node i e c u) k + uses t k) (size (node i e c u) + size t) last (L.next (get_or ls i L.none)) (Some i)
         moved_first = record {
           first = u;
           second = node i e c t;
@@ -179,17 +179,17 @@ module _ {T K : Type 0} (L : Layout T K) where
               };
             };
             cells = λ k. omega (arith, p.cells k);
-            stamps = λ k. omega (arith, p.stamps k, tally_first (precedes_by L.le) stamp_of i e c u k, tally_first (precedes_by L.le) stamp_of i e c t k);
+            stamps = λ k. omega (arith, p.stamps k, tally_first (precedes_by le) stamp_of i e c u k, tally_first (precedes_by le) stamp_of i e c t k);
             few = omega (arith, p.few);
           };
-          lists = list_moved (precedes_by L.le) stamp_of law i e c u t (λ k. omega (arith, p.stamps k));
+          lists = list_moved (precedes_by le) stamp_of law i e c u t (λ k. omega (arith, p.stamps k));
           cells = λ k. omega arith;
           counts = omega arith;
           others = λ k z. same k (grind (arith, nat_tests, z));
         }
 
       -- a forest beside what was built of others
-      pub beside : {P R : Tree (Entry T) → Type 0} {ls ls₁ : List K} {es list : List (Entry T)} {own : ℕ → ℕ} {count : ℕ} {a r : Option ℕ} {u : Tree (Entry T)} → length ls₁ ≡ length ls → StoredAt (shaped L P) ls es a u → ((k : ℕ) → uses u k + own k ≤ 1) → ((k : ℕ) → tally stamp_of (listed (precedes_by L.le) u) k + tally stamp_of list k ≤ 1) → size u + count ≤ 4096 → (m : Built (shaped L R) ls es list own count ls₁ r) → Apart L P R ls₁ es a r u m.tree
+      pub beside : {P R : Tree (Entry T) → Type 0} {ls ls₁ : List K} {es list : List (Entry T)} {own : ℕ → ℕ} {count : ℕ} {a r : Option ℕ} {u : Tree (Entry T)} → length ls₁ ≡ length ls → StoredAt (shaped L P) ls es a u → ((k : ℕ) → uses u k + own k ≤ 1) → ((k : ℕ) → tally stamp_of (listed (precedes_by le) u) k + tally stamp_of list k ≤ 1) → size u + count ≤ 4096 → (m : Built (shaped L R) ls es list own count ls₁ r) → Apart L P R ls₁ es a r u m.tree
       beside long h cells stamps few m = record {
         one = kept long (λ k z. m.others k (omega (arith, z, cells k))) h;
         two = m.stored_at;

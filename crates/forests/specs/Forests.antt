@@ -30,10 +30,9 @@ abbrev pub Before : {A : Type 0} → Tree A → Tree A → Type 0
 Before v leaf = ⊥
 Before v (node i e c s) = s ≡ v
 
--- what the cells of a heap of forests hold: T is the type of the elements, K what a cell of the links holds
-pub record Layout (T K : Type 0) : Type 1 where
-  -- the order of the elements
-  pub le : T → T → Bool
+-- what the cells of a heap of forests hold: le is the order of the elements, T their type, K what a cell of the links
+-- holds
+pub record Layout {T : Type 0} (le : T → T → Bool) (K : Type 0) : Type 1 where
   -- what the cell of a root over the children c holds, before the siblings s, and where it names both
   pub link : Tree (Entry T) → Tree (Entry T) → K
   pub child : K → Option ℕ
@@ -46,13 +45,13 @@ pub record Layout (T K : Type 0) : Type 1 where
   pub idle : Option ℕ → K
 
 -- the form of heaps whose forests have a shape, and in which every parent precedes its children
-abbrev pub shaped : {T K : Type 0} (L : Layout T K) → (Tree (Entry T) → Type 0) → Form L.le K
-shaped L Shape = record {
+abbrev pub shaped : {T K : Type 0} {le : T → T → Bool} → Layout le K → (Tree (Entry T) → Type 0) → Form le K
+shaped {le} L Shape = record {
   link = L.link;
   left = L.child;
   right = L.next;
   none = L.none;
   idle = L.idle;
-  Valid = λ t. Shape t × HeapOrdered (precedes_by L.le) t;
-  list = listed (precedes_by L.le);
+  Valid = λ t. Shape t × HeapOrdered (precedes_by le) t;
+  list = listed (precedes_by le);
 }

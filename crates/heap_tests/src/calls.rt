@@ -1,8 +1,8 @@
-// Calls of a bare heap, and their answers, as values that can be listed and compared.
+// Calls of a store, and their answers, as values that can be listed and compared.
 use elements::{Entry, Event, EventKind};
 use std::test::Fail;
 use store_checks::check;
-use stores::{BareHeap, Refusal};
+use stores::{Refusal, Store};
 
 #[derive(Clone, Copy)]
 pub enum Call {
@@ -45,18 +45,16 @@ pub fn number(answer: Result<u16, Refusal>) -> Answer {
 
 pub fn entry(answer: Result<Option<Entry<Event>>, Refusal>) -> Answer {
     match answer {
-        Ok(front) => match front {
-            Some(e) => Answer::Entry {
-                time: e.element.time,
-                stamp: e.stamp,
-            },
-            None => Answer::Nothing,
+        Ok(Some(front)) => Answer::Entry {
+            time: front.element.time,
+            stamp: front.stamp,
         },
+        Ok(None) => Answer::Nothing,
         Err(e) => Answer::Refused(e.number()),
     }
 }
 
-pub fn make_call<S: BareHeap<Item = Event>>(store: &mut S, call: Call) -> Answer
+pub fn make_call<S: Store<Item = Event>>(store: &mut S, call: Call) -> Answer
     requires { S.Store.sound store.old }
     ensures { S.Store.sound store.new }
 {
@@ -70,7 +68,7 @@ pub fn make_call<S: BareHeap<Item = Event>>(store: &mut S, call: Call) -> Answer
 }
 
 // Each call gives the answer beside it.
-pub fn run<S: BareHeap<Item = Event>>(store: &mut S, calls: &[(Call, Answer)]) -> Result<(), Fail>
+pub fn run<S: Store<Item = Event>>(store: &mut S, calls: &[(Call, Answer)]) -> Result<(), Fail>
     requires { S.Store.sound store.old }
     ensures { S.Store.sound store.new }
 {

@@ -4,10 +4,8 @@
 #[cfg(test)]
 mod agreement;
 #[cfg(test)]
-mod binomial_heaps;
-#[cfg(test)]
 mod calls;
 #[cfg(test)]
-mod pairing_heaps;
+mod heaps;
 #[cfg(test)]
 mod trials;

@@ -1,12 +1,51 @@
-// What any bare heap is tried with: ties, refusals, empty queues, melds, and 4,096 cells filled and emptied.
+// What any heap is tried with: ties, refusals, empty queues, melds, and 4,096 cells filled and emptied.
 use crate::calls::{Answer, Call, entry, event, make_call, number, run};
 use elements::Event;
 use std::test::Fail;
 use store_checks::check;
-use stores::BareHeap;
+use stores::{Sizes, Store};
+
+#[derive(Clone, Copy)]
+pub enum Trial {
+    // equal elements come by stamp
+    Ties,
+    // each refusal, the lowest number first
+    Refusals,
+    // melds of empty and full queues, both ways
+    Melds,
+    // all are used, and the entries come out in their order
+    AllCells,
+    // each later event is put behind all others, then the first is taken
+    Ascending,
+}
+
+impl Trial {
+    // How large the fresh store is that the trial asks for.
+    pub fn sizes(self) -> Sizes {
+        let (cells, stamps) = match self {
+            Trial::Ties => (4, 9),
+            Trial::Refusals => (2, 2),
+            Trial::Melds => (4, 4),
+            Trial::AllCells | Trial::Ascending => (4096, 4096),
+        };
+        Sizes { cells, stamps }
+    }
+
+    pub fn run<S: Store<Item = Event>>(self, store: &mut S) -> Result<(), Fail>
+        requires { S.Store.sound store.old }
+    {
+        match self {
+            Trial::Ties => ties(store),
+            Trial::Refusals => refusals(store),
+            Trial::Melds => melds(store),
+            Trial::AllCells => all_cells(store),
+            Trial::Ascending => ascending(store),
+        }
+    }
+}
 
 // Over a fresh store of 4 cells and 9 stamps: equal elements come by stamp.
-pub fn ties<S: BareHeap<Item = Event>>(store: &mut S) -> Result<(), Fail>
+fn ties<S: Store<Item = Event>>(store: &mut S) -> Result<(), Fail>
     requires { S.Store.sound store.old }
 {
     let calls = [
@@ -28,7 +67,7 @@ pub fn ties<S: BareHeap<Item = Event>>(store: &mut S) -> Result<(), Fail>
 }
 
 // Over a fresh store of 2 cells and 2 stamps: each refusal, the lowest number first.
-pub fn refusals<S: BareHeap<Item = Event>>(store: &mut S) -> Result<(), Fail>
+fn refusals<S: Store<Item = Event>>(store: &mut S) -> Result<(), Fail>
     requires { S.Store.sound store.old }
 {
     let calls = [
@@ -54,7 +93,7 @@ pub fn refusals<S: BareHeap<Item = Event>>(store: &mut S) -> Result<(), Fail>
 }
 
 // Over a fresh store of 4 cells and 4 stamps: melds of empty and full queues, both ways.
-pub fn melds<S: BareHeap<Item = Event>>(store: &mut S) -> Result<(), Fail>
+fn melds<S: Store<Item = Event>>(store: &mut S) -> Result<(), Fail>
     requires { S.Store.sound store.old }
 {
     let calls = [
@@ -80,7 +119,7 @@ pub fn melds<S: BareHeap<Item = Event>>(store: &mut S) -> Result<(), Fail>
 }
 
 // Queue 0 gives events at the times from `start` to 4,095, in this order, and is then empty.
-fn empties<S: BareHeap<Item = Event>>(store: &mut S, start: u32) -> Result<(), Fail>
+fn empties<S: Store<Item = Event>>(store: &mut S, start: u32) -> Result<(), Fail>
     requires { S.Store.sound store.old }
     ensures { S.Store.sound store.new }
 {
@@ -96,7 +135,7 @@ fn empties<S: BareHeap<Item = Event>>(store: &mut S, start: u32) -> Result<(), F
 }
 
 // Events at the times 0 to 4,095, each once and in no order, go into eight queues.
-fn fills<S: BareHeap<Item = Event>>(store: &mut S) -> Result<(), Fail>
+fn fills<S: Store<Item = Event>>(store: &mut S) -> Result<(), Fail>
     requires { S.Store.sound store.old }
     ensures { S.Store.sound store.new }
 {
@@ -105,6 +144,14 @@ fn fills<S: BareHeap<Item = Event>>(store: &mut S) -> Result<(), Fail>
         let queue = (i % 8) as u8;
         check(number(store.put(queue, event(time))) == Answer::Number(i))?;
     }
+    Ok(())
+}
+
+// Seven of them are melded into the first.
+fn gathers<S: Store<Item = Event>>(store: &mut S) -> Result<(), Fail>
+    requires { S.Store.sound store.old }
+    ensures { S.Store.sound store.new }
+{
     for queue in 1..8u8 {
         check(number(store.meld(0, queue)) == Answer::Number(512))?;
     }
@@ -112,22 +159,30 @@ fn fills<S: BareHeap<Item = Event>>(store: &mut S) -> Result<(), Fail>
 }
 
 // Over a fresh store of 4,096 cells and stamps: all are used, and the entries come out in their order.
-pub fn all_cells<S: BareHeap<Item = Event>>(store: &mut S) -> Result<(), Fail>
+fn all_cells<S: Store<Item = Event>>(store: &mut S) -> Result<(), Fail>
     requires { S.Store.sound store.old }
 {
-    fills(store)?;
     let more = Call::Put { queue: 0, time: 0 };
+    fills(store)?;
+    check(make_call(store, more) == Answer::Refused(12))?;
+    gathers(store)?;
     check(make_call(store, more) == Answer::Refused(12))?;
     empties(store, 0)?;
     check(make_call(store, more) == Answer::Refused(13))?;
     check(store.issued() == 4096)?;
-    check(store.sizes() == (4096, 4096))?;
+    check(
+        store.sizes()
+            == Sizes {
+                cells: 4096,
+                stamps: 4096,
+            },
+    )?;
     check(store.height() == 0)?;
     Ok(())
 }
 
 // Over a fresh store of 4,096 cells and stamps: each later event is put behind all others, then the first is taken.
-pub fn ascending<S: BareHeap<Item = Event>>(store: &mut S) -> Result<(), Fail>
+fn ascending<S: Store<Item = Event>>(store: &mut S) -> Result<(), Fail>
     requires { S.Store.sound store.old }
 {
     for i in 0..4096u16 {

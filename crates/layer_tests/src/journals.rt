@@ -63,11 +63,7 @@ fn places_are_tested(rt: HostRuntime) {
 
 #[test]
 fn whole_pile_over_a_heap(rt: HostRuntime) -> Result<(), Fail> {
-    let mut links = [Link {
-        left: None,
-        right: None,
-        rank: 0,
-    }; 4];
+    let mut links = [Link::idle(None); 4];
     let mut entries = [Entry {
         element: LineEntry {
             order: 0,
@@ -76,7 +72,11 @@ fn whole_pile_over_a_heap(rt: HostRuntime) -> Result<(), Fail> {
         },
         stamp: 0,
     }; 4];
-    let heap = leftist::make(&mut links, &mut entries, 4, 4);
+    let sizes = stores::Sizes {
+        cells: 4,
+        stamps: 4,
+    };
+    let heap = leftist::make(&mut links, &mut entries, sizes);
     match journal_over_quota_over_lazy(heap, [65535; 32], 2) {
         Ok(made) => {
             let mut store = made;

@@ -4,7 +4,7 @@ use lazy::Lazy;
 use leftist::{Link, fits, make};
 use std::test::Fail;
 use store_checks::{Answer, Call, FULL, MELDED, ORDERED, SPENT, cancelled, passes};
-use stores::{Agenda, BareHeap};
+use stores::Store;
 
 const BLANK: LineEntry = LineEntry {
     order: 0,
@@ -19,19 +19,14 @@ fn run(
     script: &[(Call, Answer)],
 ) -> Result<(), Fail> {
     let heap = rt.alloc();
-    let mut links = vec![in heap; Link {
-        left: None,
-        right: None,
-        rank: 0
-    }; cells as usize]?;
+    let sizes = stores::Sizes { cells, stamps };
+    let mut links = vec![in heap; Link::idle(None); cells as usize]?;
     let mut entries = vec![in heap; Entry {
         element: BLANK,
         stamp: 0
     }; cells as usize]?;
-    if fits(&links, &entries, cells, stamps).is_err() {
-        return Err(Fail::new("sizes"));
-    }
-    let store = make(&mut links, &mut entries, cells, stamps);
+    fits(&links, &entries, sizes)?;
+    let store = make(&mut links, &mut entries, sizes);
     if Lazy::fits(&store).is_err() {
         return Err(Fail::new("unfit"));
     }
@@ -96,16 +91,16 @@ fn moved_entries_are_cancelled_where_they_are(rt: HostRuntime) -> Result<(), Fai
 
 #[test]
 fn used_heap_is_not_fresh(rt: HostRuntime) -> Result<(), Fail> {
-    let mut links = [Link {
-        left: None,
-        right: None,
-        rank: 0,
-    }; 1];
+    let mut links = [Link::idle(None); 1];
     let mut entries = [Entry {
         element: BLANK,
         stamp: 0,
     }; 1];
-    let mut store = make(&mut links, &mut entries, 1, 2);
+    let sizes = stores::Sizes {
+        cells: 1,
+        stamps: 2,
+    };
+    let mut store = make(&mut links, &mut entries, sizes);
     let _ = store.put(0, BLANK);
     let _ = store.take(0);
     match Lazy::fits(&store) {

@@ -33,9 +33,8 @@ over_child k o = record { child = o; next = k.next }
 abbrev pub idle_to : Option ℕ → Link
 idle_to o = record { child = None; next = o }
 
-abbrev pub cells_of : {T : Type 0} → (T → T → Bool) → Layout T Link
+abbrev pub cells_of : {T : Type 0} (le : T → T → Bool) → Layout le Link
 cells_of le = record {
-  le = le;
   link = link_of;
   child = λ (k : Link). k.child;
   next = λ (k : Link). k.next;

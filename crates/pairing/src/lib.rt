@@ -5,7 +5,6 @@
 mod heaps;
 mod links;
 mod passes;
-mod trees;
 
 pub use heap_store::{fits, make};
 pub use heaps::Pairing;

@@ -7,8 +7,8 @@ ghost use Rattle.elements.specs.Order.{precedes_by};
 ghost use Rattle.pairing.specs.Pairing.{pairing, cells_of};
 
 use crate::links::Link;
-use crate::trees::{join, set_next};
 use elements::{Entry, Ordered};
+use forests::{join, set_next};
 
 // Joins the siblings from `at` on in pairs, from the first on. The answer is the last pair's tree, before the one
 // before it, and so on back to the first.
@@ -26,7 +26,7 @@ pub fn pair_up<T: Ordered + Copy>(
         let second = links[i as usize].next;
         match second {
             None => {
-                set_next(links, i, paired);
+                set_next::<Link, T>(links, i, paired);
                 paired = Some(i);
                 rest = None;
             }
@@ -55,7 +55,7 @@ pub fn gather<T: Ordered + Copy>(
         rest = links[i as usize].next;
         match whole {
             None => {
-                set_next(links, i, None);
+                set_next::<Link, T>(links, i, None);
                 whole = Some(i);
             }
             Some(j) => {

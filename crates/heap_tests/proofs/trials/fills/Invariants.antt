@@ -3,6 +3,3 @@ use Rattle.heap_tests.proofs.trials.fills.Given as goal
 
 abbrev pub invariant-loop-i : goal.invariant-loop-i
 invariant-loop-i g l = g.S.Store.sound l.store
-
-abbrev pub invariant-loop-queue : goal.invariant-loop-queue
-invariant-loop-queue g l = g.S.Store.sound l.store

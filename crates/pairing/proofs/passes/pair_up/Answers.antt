@@ -1,5 +1,6 @@
 use Rattle.std.proofs.Common.{arith}
 use Rattle.elements.proofs.Strictness.{strict}
+use Rattle.forests.proofs.Joining.{joined_before}
 use Rattle.forests.proofs.Parting.{part_start, part_end}
 use Rattle.pairing.specs.Pairing.{cells_of}
 use Rattle.pairing.specs.Lawful.{laid}
@@ -25,19 +26,19 @@ pub bounds-links-j : goal.bounds-links-j
 bounds-links-j g c = let le = g.T.Ordered.le in (pair_turn le (strict le g.met.T.Ordered.laws) (c.pairs.invariant _ c.requires.1) c.in-Some.is c.in-Some-second.j c.in-Some-second.is).within
 
 pub join-root-requires : goal.join-root-requires
-join-root-requires g c = let le = g.T.Ordered.le in (_, _, _, (pair_turn le (strict le g.met.T.Ordered.laws) (c.pairs.invariant _ c.requires.1) c.in-Some.is c.in-Some-second.j c.in-Some-second.is).joinable)
+join-root-requires g c = let le = g.T.Ordered.le in record { joinable = (_, _, _, (pair_turn le (strict le g.met.T.Ordered.laws) (c.pairs.invariant _ c.requires.1) c.in-Some.is c.in-Some-second.j c.in-Some-second.is).joinable); room = (tt, tt) }
 
 pub pairs-smaller : goal.pairs-smaller
 pairs-smaller g c =
     let le = g.T.Ordered.le in
     let w = pair_turn le (strict le g.met.T.Ordered.laws) (c.pairs.invariant _ c.requires.1) c.in-Some.is c.in-Some-second.j c.in-Some-second.is in
-    (w.ends _ _ (omega (arith, c.join-root.auto.links)) (c.join-root.ensures _ _ _ w.joinable)).falls
+    (w.ends _ _ (omega (arith, c.join-root.auto.links)) (joined_before (cells_of le) w.joinable (c.join-root.ensures _ _ _ w.joinable))).falls
 
 pub pairs-preserved : goal.pairs-preserved
 pairs-preserved g c t f =
     let le = g.T.Ordered.le in
     let w = pair_turn le (strict le g.met.T.Ordered.laws) (c.pairs.invariant t f) c.in-Some.is c.in-Some-second.j c.in-Some-second.is in
-    (w.ends _ _ (omega (arith, c.join-root.auto.links)) (c.join-root.ensures _ _ _ w.joinable)).parted
+    (w.ends _ _ (omega (arith, c.join-root.auto.links)) (joined_before (cells_of le) w.joinable (c.join-root.ensures _ _ _ w.joinable))).parted
 
 pub returns : goal.returns
 returns g c t f = let le = g.T.Ordered.le in part_end (cells_of le) (laid le) (strict le g.met.T.Ordered.laws) c.in_default.is (c.pairs.invariant t f)

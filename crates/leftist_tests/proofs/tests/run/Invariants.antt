@@ -1,5 +1,0 @@
--- The store stays sound.
-use Rattle.leftist_tests.proofs.tests.run.Given as goal
-
-abbrev pub invariant-loop-call : goal.invariant-loop-call
-invariant-loop-call g l = g.S.Store.sound l.store

@@ -6,20 +6,7 @@ use piles::{journal_over_quota, journal_over_quota_over_lazy};
 use records::Record;
 use std::test::Fail;
 use store_checks::{Answer, Call, cancelled, passes};
-use stores::{Agenda, BareHeap};
-
-// The kind of change, and its two numbers.
-fn told(change: Option<Change>) -> (u8, u16, u16) {
-    match change {
-        Some(kept) => match kept {
-            Change::Put { queue, stamp } => (1, queue as u16, stamp),
-            Change::Take { queue, stamp } => (2, queue as u16, stamp),
-            Change::Meld { into, from } => (3, into as u16, from as u16),
-            Change::Cancel { stamp } => (4, stamp, 0),
-        },
-        None => (0, 0, 0),
-    }
-}
+use stores::{Sizes, Store};
 
 #[test]
 fn last_changes_are_kept(rt: HostRuntime) -> Result<(), Fail> {
@@ -33,24 +20,35 @@ fn last_changes_are_kept(rt: HostRuntime) -> Result<(), Fail> {
         (Call::Take(0), Answer::Order(7)),
         (Call::Cancel(1), Answer::Number(0)),
     ];
-    match journal_over_quota(table::make(&mut cells, 4, 8), [1; 32], 3) {
-        Ok(made) => {
-            let mut store = made;
-            passes(&mut store, &script)?;
-            assert_eq!(rt; told(store.oldest(0)), (3, 0, 1));
-            assert_eq!(rt; told(store.oldest(1)), (2, 0, 0));
-            assert_eq!(rt; told(store.oldest(2)), (4, 1, 0));
-            assert_eq!(rt; told(store.oldest(3)), (0, 0, 0));
-            Ok(())
-        }
-        Err(_) => Err(Fail::new("unfit")),
-    }
+    let table = table::make(
+        &mut cells,
+        Sizes {
+            cells: 4,
+            stamps: 8,
+        },
+    );
+    let Ok(mut store) = journal_over_quota(table, [1; 32], 3) else {
+        return Err(Fail::new("unfit"));
+    };
+    passes(&mut store, &script)?;
+    assert_eq!(rt; store.oldest(0), Some(Change::Meld { into: 0, from: 1 }));
+    assert_eq!(rt; store.oldest(1), Some(Change::Take { queue: 0, stamp: 0 }));
+    assert_eq!(rt; store.oldest(2), Some(Change::Cancel { stamp: 1 }));
+    assert_eq!(rt; store.oldest(3), None);
+    Ok(())
 }
 
 // Whether a journal may have so many places.
 fn places_allowed(used: u16) -> bool {
     let mut cells: [Option<Record<LineEntry>>; 1] = [None; 1];
-    journal_over_quota(table::make(&mut cells, 1, 1), [1; 32], used).is_ok()
+    let table = table::make(
+        &mut cells,
+        Sizes {
+            cells: 1,
+            stamps: 1,
+        },
+    );
+    journal_over_quota(table, [1; 32], used).is_ok()
 }
 
 #[test]
@@ -77,15 +75,12 @@ fn whole_pile_over_a_heap(rt: HostRuntime) -> Result<(), Fail> {
         stamps: 4,
     };
     let heap = leftist::make(&mut links, &mut entries, sizes);
-    match journal_over_quota_over_lazy(heap, [65535; 32], 2) {
-        Ok(made) => {
-            let mut store = made;
-            passes(&mut store, &cancelled(1))?;
-            assert_eq!(rt; told(store.oldest(0)), (4, 0, 0));
-            assert_eq!(rt; told(store.oldest(1)), (4, 2, 0));
-            assert_eq!(rt; store.height(), 3);
-            Ok(())
-        }
-        Err(_) => Err(Fail::new("unfit")),
-    }
+    let Ok(mut store) = journal_over_quota_over_lazy(heap, [65535; 32], 2) else {
+        return Err(Fail::new("unfit"));
+    };
+    passes(&mut store, &cancelled(1))?;
+    assert_eq!(rt; store.oldest(0), Some(Change::Cancel { stamp: 0 }));
+    assert_eq!(rt; store.oldest(1), Some(Change::Cancel { stamp: 2 }));
+    assert_eq!(rt; store.height(), 3);
+    Ok(())
 }

@@ -103,11 +103,9 @@ fn used_heap_is_not_fresh(rt: HostRuntime) -> Result<(), Fail> {
     let mut store = make(&mut links, &mut entries, sizes);
     let _ = store.put(0, BLANK);
     let _ = store.take(0);
-    match Lazy::fits(&store) {
-        Ok(_) => Err(Fail::new("made over a heap with stamps issued")),
-        Err(unfit) => {
-            assert_eq!(rt; unfit.number(), 2);
-            Ok(())
-        },
-    }
+    let Err(unfit) = Lazy::fits(&store) else {
+        return Err(Fail::new("made over a heap with stamps issued"));
+    };
+    assert_eq!(rt; unfit.number(), 2);
+    Ok(())
 }

@@ -4,17 +4,19 @@ use piles::quota_over_quota;
 use records::Record;
 use std::test::Fail;
 use store_checks::{Answer, Call, passes};
-use table::make;
+use stores::Sizes;
 
 fn run(inner: u16, outer: u16, script: &[(Call, Answer)]) -> Result<(), Fail> {
     let mut cells: [Option<Record<LineEntry>>; 4] = [None; 4];
-    match quota_over_quota(make(&mut cells, 4, 8), [inner; 32], [outer; 32]) {
-        Ok(made) => {
-            let mut store = made;
-            passes(&mut store, script)
-        }
-        Err(_) => Err(Fail::new("unfit")),
-    }
+    let sizes = Sizes {
+        cells: 4,
+        stamps: 8,
+    };
+    let table = table::make(&mut cells, sizes);
+    let Ok(mut store) = quota_over_quota(table, [inner; 32], [outer; 32]) else {
+        return Err(Fail::new("unfit"));
+    };
+    passes(&mut store, script)
 }
 
 #[test]

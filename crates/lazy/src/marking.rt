@@ -6,14 +6,12 @@ ghost use Rattle.cancelled.specs.Cancelled.{renamed};
 use stores::Refusal;
 
 // `queue_of` has each stamp's queue plus 1, or 0 when it is in none: a byte for each stamp, which is all the memory that a
-// layer may have.
+// layer may have. The lengths are no ghost fields: the checker covers no layer with one over a heap that holds a `&mut`.
 #[derive(Drop)]
 pub struct Marks {
     pub(crate) queue_of: [u8; 32768],
     pub(crate) counts: [u16; 32],
     pub(crate) height: u8,
-    ghost marks_long: { length queue_of ≡ 32768 },
-    ghost counts_long: { length counts ≡ 32 },
 }
 
 impl Marks {
@@ -50,6 +48,7 @@ impl Marks {
     pub(crate) fn enter(&mut self, stamp: u16, queue: u8)
         requires fits { stamp < length self.old.queue_of }
         requires near { queue < 32 }
+        requires long { length self.old.counts ≡ 32 }
         requires room { slice_index self.old.counts queue < 65535 }
         ensures marks { self.new.queue_of ≡ set self.old.queue_of stamp (queue + 1) }
         ensures counts { self.new.counts ≡ slice_set self.old.counts queue (slice_index self.old.counts queue + 1) }
@@ -61,7 +60,7 @@ impl Marks {
 
     pub(crate) fn leave(&mut self, stamp: u16, queue: u8)
         requires fits { stamp < length self.old.queue_of }
-        requires near { queue < 32 }
+        requires near { queue < length self.old.counts }
         requires some { 1 ≤ slice_index self.old.counts queue }
         ensures marks { self.new.queue_of ≡ set self.old.queue_of stamp 0 }
         ensures counts { self.new.counts ≡ slice_set self.old.counts queue (slice_index self.old.counts queue - 1) }
@@ -74,6 +73,7 @@ impl Marks {
     // The entries of the queue `from` go into the queue `into`; the answer is how many count.
     pub(crate) fn join(&mut self, into: u8, from: u8) -> u16
         requires near { (into < 32) × (from < 32) }
+        requires long { length self.old.counts ≡ 32 }
         requires room { slice_index self.old.counts into + slice_index self.old.counts from ≤ 65535 }
         ensures moved { result ≡ slice_index self.old.counts from }
         ensures marks { self.new.queue_of ≡ renamed (from + 1) (into + 1) self.old.queue_of }

@@ -4,11 +4,11 @@ ghost use Rattle.stores.specs.declared.refusals.Refusal.TheVariants.{AtLimit};
 
 use stores::Refusal;
 
+// The length is no ghost field: the checker covers no layer with one over a store that holds a `&mut`.
 #[derive(Drop)]
 pub struct Limits {
     limits: [u16; 32],
     pub(crate) height: u8,
-    ghost long: { length limits ≡ 32 },
 }
 
 impl Limits {
@@ -26,7 +26,7 @@ impl Limits {
 
     // Whether the queue is at its limit when it has so many entries.
     pub(crate) fn reached(&self, queue: u8, count: u16) -> bool
-        requires { queue < 32 }
+        requires { queue < length self.now.limits }
         ensures { result ≡ nat_le (slice_index self.now.limits queue) count }
     {
         count >= self.limits[queue as usize]

@@ -1,13 +1,14 @@
 -- Which cells are empty, and how many have a stamp, as cells are filled, emptied and moved.
-use Rattle.std.proofs.Common.{◌≡◌, ℕ, zero, suc, ◌+◌, ◌<◌, ◌≤◌, true, false, cond, eqb, List, [], ◌∷◌, map, length, get_or, set, replicate, is_some, Some, None, count_by, sym, refl, ap, ◌∙◌, subst, arith}
+use Rattle.std.proofs.Common.{◌≡◌, ℕ, zero, suc, ◌+◌, ◌<◌, ◌≤◌, true, false, cond, eqb, List, [], ◌∷◌, map, length, get_or, set, replicate, is_some, Some, None, count_by, position, sym, refl, ap, ◌∙◌, subst, arith}
 use Rattle.std.specs.List.{HoldsAt, AllByRecursion}
 use Rattle.std.proofs.ByRecursion.{All-get_or}
 use Rattle.std.proofs.lemmas.List.Filters.{length-filter_both}
 use Rattle.std.proofs.lemmas.List.Sums.{sum_by-cons, sum_by-set, length-filter, get_or-le-sum_by}
 use Rattle.std.proofs.lemmas.Bool.{eq-eqb, eqb-true, false≢true}
 use Rattle.records.specs.declared.cells.Record.{Record}
-use Rattle.records.specs.Cells.{Cell, empty, has_stamp, moved, Numbered, occupied, stamped, position, Holds, StampedAt}
-use Rattle.records.proofs.Positions.{position_none, position_some}
+use Rattle.records.specs.Cells.{Cell, empty, has_stamp, moved, Numbered, occupied, stamped, Holds, StampedAt}
+use Rattle.std.proofs.lemmas.List.Quantifiers.{position-Some}
+use Rattle.records.proofs.Positions.{position_none}
 
 module _ {T : Type 0} where
   -- what a cell adds to the count of a stamp
@@ -25,18 +26,18 @@ module _ {T : Type 0} where
   nothing None e = refl
   nothing (Some r) e = absurd (false≢true e)
 
-  pub none_empty : (cs : List (Cell T)) → None ≡ position empty cs 0 → occupied cs ≡ length cs
-  none_empty cs e = omega (arith, occupied_or_empty cs, position_none empty cs 0 (sym e))
+  pub none_empty : (cs : List (Cell T)) → None ≡ position empty cs → occupied cs ≡ length cs
+  none_empty cs e = omega (arith, occupied_or_empty cs, position_none empty cs (sym e))
 
-  pub one_empty : (cs : List (Cell T)) (i : ℕ) → Some i ≡ position empty cs 0 → (i < length cs) × HoldsAt (λ c. c ≡ None) cs i × (occupied cs < length cs)
+  pub one_empty : (cs : List (Cell T)) (i : ℕ) → Some i ≡ position empty cs → (i < length cs) × HoldsAt (λ c. c ≡ None) cs i × (occupied cs < length cs)
   one_empty cs i e =
-      let p = position_some empty cs i (sym e) in
+      let p = position-Some empty cs i None (sym e) in
       let some = get_or-le-sum_by (λ (c : Cell T). cond {A = ℕ} (empty c) 1 0) cs i None p.0 in
-      let one = ap (λ t. cond {A = ℕ} t 1 0) (p.1 None) in
-      (p.0, λ d. nothing (get_or cs i d) (p.1 d), omega (arith, occupied_or_empty cs, some, one))
+      let one = ap (λ t. cond {A = ℕ} t 1 0) p.1 in
+      (p.0, λ d. nothing (get_or cs i d) (position-Some empty cs i d (sym e)).1, omega (arith, occupied_or_empty cs, some, one))
 
   pub stamp_is : (k : ℕ) (cs : List (Cell T)) (i : ℕ) (r : Record T) → StampedAt k cs (Some (i, r)) → r.entry.stamp ≡ k
-  stamp_is k cs i r h = eqb-true r.entry.stamp k (ap (has_stamp k) (sym (h.1.1 None)) ∙ (position_some (has_stamp k) cs i h.0).1 None)
+  stamp_is k cs i r h = eqb-true r.entry.stamp k (ap (has_stamp k) (sym (h.1.1 None)) ∙ (position-Some (has_stamp k) cs i None h.0).1)
 
   pub numbered_at : (cs : List (Cell T)) (i : ℕ) (r : Record T) → Holds cs i r → AllByRecursion Numbered cs → r.queue < 32
   numbered_at cs i r h n = subst Numbered (h.1 None) (All-get_or Numbered cs i None h.0 n)

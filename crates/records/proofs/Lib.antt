@@ -1,5 +1,4 @@
 pub mod Passing
-pub mod Rewriting
 pub mod Positions
 pub mod Counts
 pub mod Queues

@@ -11,54 +11,14 @@ use Rattle.stores.specs.SortedLists.{insert}
 use Rattle.stores.specs.Calls.{front}
 use Rattle.stores.proofs.Inserting.{front_behind, front_ahead}
 use Rattle.records.specs.declared.cells.Record.{Record}
-use Rattle.records.specs.Cells.{Cell, has_stamp, with_stamp, entry_in, entering, queue_of, queued, position, Holds, FrontAt, StampedAt, earlier}
+use Rattle.records.specs.Cells.{Cell, entry_in, entering, queue_of, Holds, FrontAt, earlier}
 
 -- at the element x, which stands at i
 module _ {X : Type 0} (xs : List X) (i : ℕ) (x : X) (l : i < length xs) (read : x ≡ get_or xs i x) where
   pub left_more : {Y : Type 0} (F : List X → Y) → F (drop i xs) ≡ F (x ∷ drop (i + 1) xs)
   left_more F = at_drop_more F xs i x l ∙ ap (λ y. F (y ∷ drop (i + 1) xs)) (sym read)
 
-  module _ (test : X → Bool) (so : position test xs 0 ≡ position test (drop i xs) i) where
-    pub position_here : test x ≡ true → position test xs 0 ≡ Some i
-    position_here t = so ∙ left_more (λ ys. position test ys i) ∙ cond-true (test x) (Some i) (position test (drop (i + 1) xs) (i + 1)) t
-
-    pub position_more : test x ≡ false → position test xs 0 ≡ position test (drop (i + 1) xs) (i + 1)
-    position_more t = so ∙ left_more (λ ys. position test ys i) ∙ cond-false (test x) (Some i) (position test (drop (i + 1) xs) (i + 1)) t
-
-pub position_all : {X : Type 0} (test : X → Bool) (xs : List X) (n : ℕ) → length xs ≤ n → position test xs 0 ≡ position test (drop n xs) n → position test xs 0 ≡ None
-position_all test xs n l so = so ∙ at_drop_all (λ ys. position test ys n) xs n l
-
 module _ {T : Type 0} where
-  -- a cell with the stamp, and one without
-  pub stamp_here : (k : ℕ) (c : Cell T) (r : Record T) → Some r ≡ with_stamp k c → (has_stamp k c ≡ true) × (c ≡ Some r)
-  stamp_here k None r e = absurd (let z : ◌≡◌ {A = ℕ} 0 1 = cc in omega arith)
-  stamp_here k (Some s) r e = go (eqb s.entry.stamp k) e
-    where
-      go : (b : Bool) → Some r ≡ cond b (Some s) None → (b ≡ true) × (Some s ≡ Some r)
-      go true e = (refl, sym e)
-      go false e = absurd (let z : ◌≡◌ {A = ℕ} 0 1 = cc in omega arith)
-
-  pub stamped_here : (k : ℕ) (cs : List (Cell T)) (i : ℕ) (c : Cell T) (r : Record T) → i < length cs → c ≡ get_or cs i c → position (has_stamp k) cs 0 ≡ position (has_stamp k) (drop i cs) i → Some r ≡ with_stamp k c → StampedAt k cs (Some (i, r))
-  stamped_here k cs i c r l read so e =
-      let h = stamp_here k c r e in
-      (position_here cs i c l read (has_stamp k) so h.0, (l, at_read cs (λ x. x ≡ Some r) i c l read h.1))
-
-  pub stamp_elsewhere : (k : ℕ) (c : Cell T) → None ≡ with_stamp k c → has_stamp k c ≡ false
-  stamp_elsewhere k None e = refl
-  stamp_elsewhere k (Some s) e = go (eqb s.entry.stamp k) e
-    where
-      go : (b : Bool) → None ≡ cond b (Some s) None → b ≡ false
-      go true e = absurd (let z : ◌≡◌ {A = ℕ} 0 1 = cc in omega arith)
-      go false e = refl
-
-  -- how many of queue q are in the first cells, with one cell more
-  pub queued_more : (q n : ℕ) (cs : List (Cell T)) (i : ℕ) (c : Cell T) (b : Bool) → i < length cs → c ≡ get_or cs i c → n ≡ queued q (take i cs) → b ≡ is_some (entry_in q c) → n + cond b 1 0 ≡ queued q (take (i + 1) cs)
-  queued_more q n cs i c b l read so e =
-      let m = sum_by_more (λ (x : Cell T). cond (is_some (entry_in q x)) 1 0) cs i c l in
-      let f = ap (λ (x : Cell T). cond {A = ℕ} (is_some (entry_in q x)) 1 0) read in
-      let g = ap (λ (x : Bool). cond {A = ℕ} x 1 0) e in
-      omega (arith, so, m, f, g)
-
   -- an entry of queue q stands in a record of queue q
   pub entry_here : (q : ℕ) (c : Cell T) (e : Entry T) → Some e ≡ entry_in q c → c ≡ Some (record { queue = q; entry = e })
   entry_here q None e h = absurd (let z : ◌≡◌ {A = ℕ} 0 1 = cc in omega arith)

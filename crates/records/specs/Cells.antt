@@ -1,5 +1,5 @@
 -- What the cells of a slice hold: the list of each queue, how many entries it has, and where a record stands.
-use Rattle.std.specs.Prelude.{◌≡◌, ℕ, ◌+◌, ◌<◌, Bool, false, cond, not, List, [], ◌∷◌, map, length, is_some, Some, None, count_by, Option, ◌==◌}
+use Rattle.std.specs.Prelude.{◌≡◌, ℕ, ◌+◌, ◌<◌, Bool, false, cond, not, List, [], ◌∷◌, map, length, is_some, Some, None, count_by, position, Option, ◌==◌}
 use Rattle.std.specs.List.{range_with_len, HoldsAt}
 use Rattle.elements.specs.declared.entries.Entry.{Entry}
 use Rattle.elements.specs.Order.{precedes_by}
@@ -67,19 +67,14 @@ queued q cs = count_by (λ c. is_some (entry_in q c)) cs
 abbrev pub stamped : {T : Type 0} → ℕ → List (Cell T) → ℕ
 stamped k cs = count_by (has_stamp k) cs
 
--- where the first that passes the test stands, in a list that begins at place i
-abbrev pub position : {A : Type 0} → (A → Bool) → List A → ℕ → Option ℕ
-position test [] i = None
-position test (x ∷ xs) i = cond (test x) (Some i) (position test xs (i + 1))
-
 -- cell i has the record r
 abbrev pub Holds : {T : Type 0} → List (Cell T) → ℕ → Record T → Type 0
 Holds cs i r = (i < length cs) × HoldsAt (λ c. c ≡ Some r) cs i
 
 -- the answer to: which cell has the stamp k, and which record?
 abbrev pub StampedAt : {T : Type 0} → ℕ → List (Cell T) → Option (ℕ × Record T) → Type 0
-StampedAt k cs None = position (has_stamp k) cs 0 ≡ None
-StampedAt k cs (Some (i, r)) = (position (has_stamp k) cs 0 ≡ Some i) × Holds cs i r
+StampedAt k cs None = position (has_stamp k) cs ≡ None
+StampedAt k cs (Some (i, r)) = (position (has_stamp k) cs ≡ Some i) × Holds cs i r
 
 -- the answer to: which cell has the front of queue q, and which entry?
 abbrev pub FrontAt : {T : Type 0} → (T → T → Bool) → ℕ → List (Cell T) → Option (ℕ × Entry T) → Type 0

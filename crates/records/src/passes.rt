@@ -1,32 +1,29 @@
 // Passes over the cells.
-ghost use Rattle.std.specs.Prelude.{◌≡◌, map, length, replicate, None};
-ghost use Rattle.records.specs.Cells.{position, empty, StampedAt, FrontAt, earlier, queued, moved};
+ghost use Rattle.std.specs.Prelude.{◌≡◌, map, length, position, replicate, None};
+ghost use Rattle.records.specs.Cells.{empty, has_stamp, StampedAt, FrontAt, earlier, queued, moved};
 
 use crate::cells::{Record, entry_in, moved, with_stamp};
 use elements::{Entry, Ordered, precedes};
 
 // The first empty cell.
 pub fn empty_cell<T: Copy>(cells: &[Option<Record<T>>]) -> Option<usize>
-    ensures { result ≡ position empty cells.now 0 }
+    ensures { result ≡ position empty cells.now }
 {
-    for (i, cell) in cells.iter().enumerate() {
-        if cell.is_none() {
-            return Some(i);
-        }
-    }
-    None
+    cells.iter().position(|cell| cell.is_none())
+}
+
+fn stamped<T: Copy>(cells: &[Option<Record<T>>], stamp: u16) -> Option<usize>
+    ensures { result ≡ position (has_stamp stamp) cells.now }
+{
+    cells.iter().position(|cell| with_stamp(cell, stamp).is_some())
 }
 
 // The first cell whose entry has the stamp, and its record.
 pub fn stamped_cell<T: Copy>(cells: &[Option<Record<T>>], stamp: u16) -> Option<(usize, Record<T>)>
     ensures { StampedAt stamp cells.now result }
 {
-    for (i, cell) in cells.iter().enumerate() {
-        if let Some(record) = with_stamp(cell, stamp) {
-            return Some((i, record));
-        }
-    }
-    None
+    let i = stamped(cells, stamp)?;
+    Some((i, cells[i]?))
 }
 
 // Of the front so far, and an entry of the cell i, the one that comes first.
@@ -69,13 +66,7 @@ pub fn front_in<T: Ordered + Copy>(
 pub fn count_in<T: Copy>(cells: &[Option<Record<T>>], queue: u8) -> usize
     ensures { result ≡ queued queue cells.now }
 {
-    let mut n = 0;
-    for cell in cells {
-        if entry_in(cell, queue).is_some() {
-            n += 1;
-        }
-    }
-    n
+    cells.iter().filter(|cell| entry_in(cell, queue).is_some()).count()
 }
 
 // The records of the queue `from` go into the queue `into`.
@@ -91,7 +82,5 @@ pub fn move_all<T: Copy>(cells: &mut [Option<Record<T>>], into: u8, from: u8)
 pub fn clear<T: Copy>(cells: &mut [Option<Record<T>>])
     ensures { cells.new ≡ replicate (length cells.old) None }
 {
-    for cell in cells.iter_mut() {
-        *cell = None;
-    }
+    cells.fill(None)
 }

@@ -1,11 +1,14 @@
 // Calls of a store as values, and what they answer.
 ghost use Rattle.std.specs.Prelude.{◌≡◌};
+ghost use Rattle.stores.specs.Refusals.{number_of, height_of};
+ghost use Rattle.store_checks.specs.declared.calls.Answer.TheVariants.{Refused};
 ghost use Rattle.store_checks.specs.Answers.{answer_to, numbered, fronted};
 
 use elements::{Entry, LineEntry};
-use stores::{Agenda, Refusal};
+use stores::{Agenda, Refusal, Store};
 
-#[derive(Clone, Copy)]
+// A script has a call to a line, so what a call is made with stands by its place.
+#[derive(Clone, Copy, PartialEq, Eq, Debug)]
 pub enum Call {
     // queue, order, urgency
     Put(u8, u16, u8),
@@ -18,7 +21,7 @@ pub enum Call {
     Issued,
 }
 
-#[derive(Clone, Copy, PartialEq, Debug)]
+#[derive(Clone, Copy, PartialEq, Eq, Debug)]
 pub enum Answer {
     // a stamp, a count or a queue
     Number(u16),
@@ -28,21 +31,20 @@ pub enum Answer {
     Refused(u8, u8),
 }
 
+impl From<Refusal> for Answer {
+    ghost from_gives = { λ f a. a ≡ Refused (number_of f) (height_of f) };
+
+    fn from(refusal: Refusal) -> Answer {
+        Answer::Refused(refusal.number(), refusal.height())
+    }
+}
+
 fn numbered(answer: Result<u16, Refusal>) -> Answer
     ensures { result ≡ numbered answer }
 {
     match answer {
         Ok(n) => Answer::Number(n),
-        Err(refusal) => Answer::Refused(refusal.number(), refusal.height()),
-    }
-}
-
-fn queue_numbered(answer: Result<u8, Refusal>) -> Answer
-    ensures { result ≡ numbered answer }
-{
-    match answer {
-        Ok(queue) => Answer::Number(queue as u16),
-        Err(refusal) => Answer::Refused(refusal.number(), refusal.height()),
+        Err(refusal) => Answer::from(refusal),
     }
 }
 
@@ -50,11 +52,9 @@ fn fronted(answer: Result<Option<Entry<LineEntry>>, Refusal>) -> Answer
     ensures { result ≡ fronted answer }
 {
     match answer {
-        Ok(front) => match front {
-            Some(entry) => Answer::Order(entry.element.order),
-            None => Answer::Nobody,
-        },
-        Err(refusal) => Answer::Refused(refusal.number(), refusal.height()),
+        Ok(Some(entry)) => Answer::Order(entry.element.order),
+        Ok(None) => Answer::Nobody,
+        Err(refusal) => Answer::from(refusal),
     }
 }
 
@@ -77,7 +77,7 @@ pub fn make_call<A: Agenda<Item = LineEntry>>(store: &mut A, call: Call) -> Answ
         Call::Take(queue) => fronted(store.take(queue)),
         Call::Meld(into, from) => numbered(store.meld(into, from)),
         Call::Count(queue) => numbered(store.count(queue)),
-        Call::Cancel(stamp) => queue_numbered(store.cancel(stamp)),
+        Call::Cancel(stamp) => numbered(store.cancel(stamp).map(u16::from)),
         Call::Issued => Answer::Number(store.issued()),
     }
 }

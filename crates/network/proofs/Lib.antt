@@ -1,2 +1,3 @@
 mod NextStations
 mod Ranges
+mod Formed

@@ -24,25 +24,13 @@ same_check (End t) n m l = refl
 never : {A : Type 0} → ◌≡◌ {A = ℕ} 0 1 → A
 never z = absurd (omega (arith, z))
 
-passed : (b p d : Bool) → checked b p d ≡ None → b ≡ true
+pub passed : (b p d : Bool) → checked b p d ≡ None → b ≡ true
 passed true p d e = refl
 passed false p d e = never cc
-
-placed_too : (b p d : Bool) → checked b p d ≡ None → p ≡ true
-placed_too true true d e = refl
-placed_too true false d e = never cc
-placed_too false p d e = never cc
 
 both : (x y : Bool) → x && y ≡ true → (x ≡ true) × (y ≡ true)
 both true y e = (refl, e)
 both false y e = never cc
-
-module _ (f : Form) (n : Network) (issued : ℕ) (e : at_once f n issued ≡ None) where
-  pub ranged : in_range f ≡ true
-  ranged = passed (in_range f) _ _ e
-
-  pub in_its_place : placed f n issued ≡ true
-  in_its_place = placed_too (in_range f) (placed f n issued) _ e
 
 next_is : (x : Option ℕ) → next_number x ≡ true → WhenSome (λ k. k ≤ 31) x
 next_is None e = tt
@@ -91,13 +79,6 @@ close_numbers k t j e =
 
 pub end_number : (t : ℕ) → in_range (End t) ≡ true → t ≤ 1000000000
 end_number t e = leb-true t 1000000000 e
-
--- from the values that a check leaves: i stamps were issued, and r is its answer
-pub checked_as : (f : Form) (n : Network) (m : Meaning Event) (l : Meaning LineEntry) (i : ℕ) (r o : Option FormRefusal) → i ≡ m.state.next → r ≡ at_once f n i → r ≡ o → refused_at_once f n m l ≡ o
-checked_as f n m l i r o e a is = same_check f n m l ∙ ap (at_once f n) (sym e) ∙ sym a ∙ is
-
-pub accepted_as : (f : Form) (n : Network) (i : ℕ) (r : Option FormRefusal) → r ≡ at_once f n i → r ≡ None → at_once f n i ≡ None
-accepted_as f n i r a is = sym a ∙ is
 
 next_fit : (x : Option ℕ) → WhenSome (λ j. j ≤ 31) x → WhenSome IsStation x
 next_fit None h = tt

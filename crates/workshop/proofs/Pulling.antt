@@ -56,13 +56,16 @@ module _ (i : ℕ) where
 pub unmarked : (i : ℕ) (st : OrderState) (n : Network) → st ≡ (order n i).state → marked i st n ≡ n
 unmarked i st n e = ap (λ x. marked i x n) e ∙ ap (λ (os : _). record { stations = n.stations; orders = os; declared = n.declared }) (set-get_or n.orders i no_order)
 
--- From the values that a call of pull_out leaves: r is its answer, d and d1 the control before and after.
-module _ (i : ℕ) (kind : EventKind) (d d1 : Control) (r : Withdrawal) (k-is : kind ≡ Withdraw i) (answer : r ≡ withdrawal (order d.network i).state kind) (after : d1 ≡ with_network d (marked i (state_after (order d.network i).state kind) d.network)) where
+-- From the values that a call of pull_out leaves: r is its answer, d the control before.
+module _ (i : ℕ) (kind : EventKind) (d : Control) (r : Withdrawal) (k-is : kind ≡ Withdraw i) (answer : r ≡ withdrawal (order d.network i).state kind) where
+  abbrev pub pulled : Control
+  pulled = with_network d (marked i (state_after (order d.network i).state kind) d.network)
+
   found : (x : Withdrawal) → r ≡ x → withdrawal (order d.network i).state (Withdraw i) ≡ x
   found x e = sym (answer ∙ ap (withdrawal (order d.network i).state) k-is) ∙ e
 
-  left : (st : OrderState) → (order d.network i).state ≡ st → d1 ≡ with_network d (marked i (state_after st (Withdraw i)) d.network)
-  left st e = after ∙ ap (λ k. with_network d (marked i (state_after (order d.network i).state k) d.network)) k-is ∙ ap (λ s. with_network d (marked i (state_after s (Withdraw i)) d.network)) e
+  left : (st : OrderState) → (order d.network i).state ≡ st → pulled ≡ with_network d (marked i (state_after st (Withdraw i)) d.network)
+  left st e = ap (λ k. with_network d (marked i (state_after (order d.network i).state k) d.network)) k-is ∙ ap (λ s. with_network d (marked i (state_after s (Withdraw i)) d.network)) e
 
   pub waited : (s : ℕ) → r ≡ FromLine s → (order d.network i).state ≡ Waiting s
   waited s e = from_line i _ s (found (FromLine s) e)
@@ -73,11 +76,11 @@ module _ (i : ℕ) (kind : EventKind) (d d1 : Control) (r : Withdrawal) (k-is : 
   pub was_missed : r ≡ Missed → IsMissed i (order d.network i).state
   was_missed e = missed i _ (found Missed e)
 
-  pub waited_left : (s : ℕ) → r ≡ FromLine s → d1 ≡ with_network d (marked i Withdrawn d.network)
+  pub waited_left : (s : ℕ) → r ≡ FromLine s → pulled ≡ with_network d (marked i Withdrawn d.network)
   waited_left s e = left (Waiting s) (waited s e)
 
-  pub served_left : (k s : ℕ) → r ≡ FromBench k s → d1 ≡ with_network d (marked i Withdrawn d.network)
+  pub served_left : (k s : ℕ) → r ≡ FromBench k s → pulled ≡ with_network d (marked i Withdrawn d.network)
   served_left k s e = left (InService k s) (served k s e)
 
-  pub missed_left : r ≡ Missed → d1 ≡ d
+  pub missed_left : r ≡ Missed → pulled ≡ d
   missed_left e = left (order d.network i).state refl ∙ ap (with_network d) (unmarked i _ d.network (was_missed e).same)

@@ -1,45 +1,32 @@
-use Rattle.std.proofs.Common.{refl, ap, arith}
-use Rattle.outcomes.specs.Simulation.{Control}
-use Rattle.simulations.proofs.Finishing.{vacated_fit, bench_after, vacated_used, vacated_place, release_on, finish_on, finish_stranded, stranded_fit}
+use Rattle.std.proofs.Common.{refl, arith}
+use Rattle.simulations.proofs.Finishing.{vacated_fit, bench_after, vacated_place, release_on, finish_on, finish_stranded, stranded_fit}
+use Rattle.workshop.specs.Workshop.{control}
 use Rattle.workshop.proofs.Workshop.finish.Goals as goal
 
-pub start_front-requires : goal.start_front-requires
-start_front-requires g c =
-    let e = c.vacate.ensures.control in
-    let p = c.vacate.ensures.places in
-    record {
-      declared = c.requires.declared;
-      place = vacated_place c.args.hand.order c.args.k _ _ _ _ e p c.requires.places;
-      bench = bench_after c.args.hand.order c.args.k _ _ _ _ _ _ e p c.requires.declared c.requires.fit;
-      sound = c.requires.sound;
-      fit = vacated_fit c.args.hand.order c.args.k _ _ _ _ _ _ e p c.requires.fit;
-    }
+pub start_front-requires-clause-place : goal.start_front-requires-clause-place
+start_front-requires-clause-place g c = rw c.vacate.ensures (vacated_place c.args.hand.order c.args.k (control c.args.self.now) _ _ _ refl refl c.requires.places)
 
-pub returns-in-Some : goal.returns-in-Some
-returns-in-Some g c =
-    let e = c.vacate.ensures.control in
-    let p = c.vacate.ensures.places in
-    let s = c.start_front.ensures in
-    record {
-      sound = s.sound;
-      call = record {
-        fit = stranded_fit c.args.hand.order c.args.k _ _ _ _ _ c.strand.ensures.control s.call.fit;
-        few = omega (arith, ap (λ (x : Control). x.used) c.strand.ensures.control, s.call.few, vacated_used c.args.k _ _ e);
-        outcome = finish_stranded _ _ _ _ _ _ _ _ _ (release_on c.args.hand.order c.args.k _ _ _ _ _ _ e p _ (omega (arith, c.requires.places)) s.call.outcome) refl c.in-Some.is c.strand.ensures.control;
-      };
-    }
+pub start_front-requires-clause-bench : goal.start_front-requires-clause-bench
+start_front-requires-clause-bench g c = rw c.vacate.ensures (bench_after c.args.hand.order c.args.k _ _ _ _ _ _ refl refl c.requires.declared c.requires.ready.fit)
 
-pub returns-in-None : goal.returns-in-None
-returns-in-None g c =
-    let e = c.vacate.ensures.control in
-    let p = c.vacate.ensures.places in
-    let s = c.start_front.ensures in
-    let q = c.leave.ensures in
+pub start_front-requires-clause-ready : goal.start_front-requires-clause-ready
+start_front-requires-clause-ready g c = rw c.vacate.ensures (record { sound = c.requires.ready.sound; fit = vacated_fit c.args.hand.order c.args.k _ _ _ _ _ _ refl refl c.requires.ready.fit })
+
+pub returns-in-Some-clause-call : goal.returns-in-Some-clause-call
+returns-in-Some-clause-call g c =
+    let s = rw c.vacate.ensures at c.start_front.ensures.call in
+    rw c.strand.ensures (record {
+      fit = stranded_fit c.args.hand.order c.args.k _ _ _ _ _ refl s.fit;
+      few = omega (arith, s.few);
+      outcome = finish_stranded _ _ _ _ _ _ _ _ _ (release_on c.args.hand.order c.args.k _ _ _ _ _ _ refl refl _ (omega (arith, c.requires.places)) s.outcome) refl c.in-Some.is refl;
+    })
+
+pub returns-in-None-clause-call : goal.returns-in-None-clause-call
+returns-in-None-clause-call g c =
+    let s = rw c.vacate.ensures at c.start_front.ensures.call in
+    let q = c.leave.ensures.call in
     record {
-      sound = q.sound;
-      call = record {
-        fit = q.call.fit;
-        few = omega (arith, q.call.few, s.call.few, vacated_used c.args.k _ _ e);
-        outcome = finish_on _ _ _ _ _ (release_on c.args.hand.order c.args.k _ _ _ _ _ _ e p _ (omega (arith, c.requires.places)) s.call.outcome) refl c.in-None.is q.call.outcome;
-      };
+      fit = q.fit;
+      few = omega (arith, q.few, s.few);
+      outcome = finish_on _ _ _ _ _ (release_on c.args.hand.order c.args.k _ _ _ _ _ _ refl refl _ (omega (arith, c.requires.places)) s.outcome) refl c.in-None.is q.outcome;
     }

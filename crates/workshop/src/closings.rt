@@ -28,12 +28,11 @@ impl<E: Agenda<Item = Event>, O: Agenda<Item = LineEntry>> Workshop<'_, E, O> {
         ensures { self.new ≡ left self.old (shut k j (control self.old)) (noted (Close k j moved) (control self.old) self.old.places.now) }
     {
         self.net.stations[k as usize].into = Some(j);
-        let kind = RecordKind::Close {
+        self.note(RecordKind::Close {
             station: k,
             into: j,
             moved,
-        };
-        self.note(kind);
+        });
     }
 
     // One more turn of filling the benches of station j; after a fault there is none.
@@ -78,11 +77,10 @@ impl<E: Agenda<Item = Event>, O: Agenda<Item = LineEntry>> Workshop<'_, E, O> {
         ensures same { Same self.old self.new }
     {
         if stays_open(self.net, k, j) {
-            let kind = RecordKind::Kept {
+            self.note(RecordKind::Kept {
                 station: k,
                 into: j,
-            };
-            self.note(kind);
+            });
         } else if let Ok(moved) = self.orders.meld(j, k) {
             self.shut(k, j, moved);
             self.fill(j);

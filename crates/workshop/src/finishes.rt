@@ -51,9 +51,10 @@ impl<E: Agenda<Item = Event>, O: Agenda<Item = LineEntry>> Workshop<'_, E, O> {
     {
         self.vacate(hand.order, k);
         self.start_front(k);
-        match self.run.fault {
-            Some(_) => self.strand(hand),
-            None => self.leave(hand, k),
+        if self.run.fault.is_some() {
+            self.strand(hand);
+        } else {
+            self.leave(hand, k);
         }
     }
 }

@@ -87,12 +87,8 @@ impl Run {
         if self.fault.is_some() {
             return None;
         }
-        let entry = events.first(0).ok().flatten()?;
-        if self.end < entry.element.time {
-            None
-        } else {
-            Some(entry.element)
-        }
+        let event = events.first(0).ok().flatten()?.element;
+        (event.time <= self.end).then_some(event)
     }
 
     // What a step tells that took that event, or none.

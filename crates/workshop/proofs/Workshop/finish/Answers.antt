@@ -1,6 +1,7 @@
-use Rattle.std.proofs.Common.{refl, arith}
+use Rattle.std.proofs.Common.{sym, refl, arith}
 use Rattle.simulations.proofs.Finishing.{vacated_fit, bench_after, vacated_place, release_on, finish_on, finish_stranded, stranded_fit}
 use Rattle.workshop.specs.Workshop.{control}
+use Rattle.workshop.proofs.Faults.{no_fault, a_fault}
 use Rattle.workshop.proofs.Workshop.finish.Goals as goal
 
 pub start_front-requires-clause-place : goal.start_front-requires-clause-place
@@ -12,21 +13,22 @@ start_front-requires-clause-bench g c = rw c.vacate.ensures (bench_after c.args.
 pub start_front-requires-clause-ready : goal.start_front-requires-clause-ready
 start_front-requires-clause-ready g c = rw c.vacate.ensures (record { sound = c.requires.ready.sound; fit = vacated_fit c.args.hand.order c.args.k _ _ _ _ _ _ refl refl c.requires.ready.fit })
 
-pub returns-in-Some-clause-call : goal.returns-in-Some-clause-call
-returns-in-Some-clause-call g c =
+pub returns-then-is_some-clause-call : goal.returns-then-is_some-clause-call
+returns-then-is_some-clause-call g c =
     let s = rw c.vacate.ensures at c.start_front.ensures.call in
+    let f = a_fault c.start_front.new.self.run.now.fault (sym c.if-is_some.ensures) in
     rw c.strand.ensures (record {
       fit = stranded_fit c.args.hand.order c.args.k _ _ _ _ _ refl s.fit;
       few = omega (arith, s.few);
-      outcome = finish_stranded _ _ _ _ _ _ _ _ _ (release_on c.args.hand.order c.args.k _ _ _ _ _ _ refl refl _ (omega (arith, c.requires.places)) s.outcome) refl c.in-Some.is refl;
+      outcome = finish_stranded _ _ _ _ _ _ _ _ f.0 (release_on c.args.hand.order c.args.k _ _ _ _ _ _ refl refl _ (omega (arith, c.requires.places)) s.outcome) refl f.1 refl;
     })
 
-pub returns-in-None-clause-call : goal.returns-in-None-clause-call
-returns-in-None-clause-call g c =
+pub returns-else-is_some-clause-call : goal.returns-else-is_some-clause-call
+returns-else-is_some-clause-call g c =
     let s = rw c.vacate.ensures at c.start_front.ensures.call in
     let q = c.leave.ensures.call in
     record {
       fit = q.fit;
       few = omega (arith, q.few, s.few);
-      outcome = finish_on _ _ _ _ _ (release_on c.args.hand.order c.args.k _ _ _ _ _ _ refl refl _ (omega (arith, c.requires.places)) s.outcome) refl c.in-None.is q.outcome;
+      outcome = finish_on _ _ _ _ _ (release_on c.args.hand.order c.args.k _ _ _ _ _ _ refl refl _ (omega (arith, c.requires.places)) s.outcome) refl (no_fault _ (sym c.if-is_some.ensures)) q.outcome;
     }

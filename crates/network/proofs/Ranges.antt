@@ -1,5 +1,5 @@
 -- What an accepted form tells of its numbers.
-use Rattle.std.proofs.Common.{◌≡◌, ℕ, ◌≤◌, Bool, true, false, ◌&&◌, leb, Some, None, Option, sym, refl, ap, ◌∙◌, arith}
+use Rattle.std.proofs.Common.{◌≡◌, ℕ, ◌≤◌, Bool, true, false, ◌&&◌, leb, Some, None, Option, refl, arith}
 use Rattle.std.proofs.lemmas.Bool.{leb-true}
 use Rattle.elements.specs.declared.events.Event.{Event}
 use Rattle.elements.specs.declared.lines.LineEntry.{LineEntry}
@@ -7,11 +7,10 @@ use Rattle.stores.specs.Meaning.{Meaning}
 use Rattle.machine.specs.declared.networks.Network.{Network}
 use Rattle.machine.specs.declared.forms.Form.{Form}
 use Rattle.machine.specs.declared.forms.Form.TheVariants.{Station, Order, Withdraw, Close, End}
-use Rattle.machine.specs.declared.forms.FormRefusal.{FormRefusal}
 use Rattle.machine.specs.Forms.{in_range, next_number, checked, new_station}
 use Rattle.simulations.specs.Conditions.{IsStation, WhenSome, StationFit}
 use Rattle.simulations.specs.Drafts.{refused_at_once}
-use Rattle.network.specs.Checks.{placed, at_once}
+use Rattle.network.specs.Checks.{at_once}
 
 -- the check is the machine's
 pub same_check : (f : Form) (n : Network) (m : Meaning Event) (l : Meaning LineEntry) → refused_at_once f n m l ≡ at_once f n m.state.next

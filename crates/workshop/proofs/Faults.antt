@@ -1,5 +1,5 @@
 -- A test whether a run has ended with a fault.
-use Rattle.std.proofs.Common.{◌≡◌, ℕ, Bool, true, false, Some, None, Option, refl, arith}
+use Rattle.std.proofs.Common.{◌≡◌, ℕ, true, false, Some, None, Option, refl, arith}
 use Rattle.std.specs.Option.{is_some}
 use Rattle.machine.specs.declared.records.Fault.{Fault}
 

@@ -1,6 +1,4 @@
-use Rattle.std.proofs.Common.{take, ap, ◌∙◌}
-use Rattle.machine.specs.Forms.{names_declared}
-use Rattle.machine.specs.declared.forms.Form.{Form}
+use Rattle.std.proofs.Common.{take, ◌∙◌}
 use Rattle.network.proofs.NextStations.{each_next}
 use Rattle.network.proofs.checks.names_declared.Goals as goal
 

@@ -1,5 +1,5 @@
 use Rattle.std.proofs.Common.{sym, refl, ◌∙◌}
-use Rattle.simulations.proofs.Stepping.{took_due, due_fit, taken_fit, step_rests, step_happens}
+use Rattle.simulations.proofs.Stepping.{took_due, step_rests, step_happens}
 use Rattle.workshop.proofs.Workshop.advance.Goals as goal
 
 pub returns-in-Some-clause-call : goal.returns-in-Some-clause-call

@@ -1,4 +1,3 @@
-use Rattle.std.proofs.Common.{◌≡◌, ◌+◌, ◌≤◌, length}
 use Rattle.machine.specs.Step.{fill}
 use Rattle.simulations.specs.Calls.{Call}
 use Rattle.workshop.specs.Workshop.{simulated, Sound, Same}

@@ -1,5 +1,4 @@
-use Rattle.std.proofs.Common.{refl, arith}
-use Rattle.simulations.proofs.Fitting.{station_fit}
+use Rattle.std.proofs.Common.{refl}
 use Rattle.simulations.proofs.Spending.{start_accepted, start_refused}
 use Rattle.workshop.proofs.Workshop.start.Goals as goal
 

@@ -1,4 +1,4 @@
-use Rattle.std.proofs.Common.{◌≡◌, ℕ, ◌+◌, ◌-◌, ◌<◌, ◌∙◌, ap, arith}
+use Rattle.std.proofs.Common.{◌≡◌, ◌+◌, ◌-◌, ◌<◌, ◌∙◌, ap, arith}
 use Rattle.machine.specs.Network.{follow}
 use Rattle.simulations.proofs.Fitting.{into_station}
 use Rattle.simulations.proofs.Entering.{follow_some}

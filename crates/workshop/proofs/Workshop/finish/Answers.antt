@@ -1,17 +1,7 @@
 use Rattle.std.proofs.Common.{sym, refl, arith}
-use Rattle.simulations.proofs.Finishing.{vacated_fit, bench_after, vacated_place, release_on, finish_on, finish_stranded, stranded_fit}
-use Rattle.workshop.specs.Workshop.{control}
+use Rattle.simulations.proofs.Finishing.{release_on, finish_on, finish_stranded, stranded_fit}
 use Rattle.workshop.proofs.Faults.{no_fault, a_fault}
 use Rattle.workshop.proofs.Workshop.finish.Goals as goal
-
-pub start_front-requires-clause-place : goal.start_front-requires-clause-place
-start_front-requires-clause-place g c = rw c.vacate.ensures (vacated_place c.args.hand.order c.args.k (control c.args.self.now) _ _ _ refl refl c.requires.places)
-
-pub start_front-requires-clause-bench : goal.start_front-requires-clause-bench
-start_front-requires-clause-bench g c = rw c.vacate.ensures (bench_after c.args.hand.order c.args.k _ _ _ _ _ _ refl refl c.requires.declared c.requires.ready.fit)
-
-pub start_front-requires-clause-ready : goal.start_front-requires-clause-ready
-start_front-requires-clause-ready g c = rw c.vacate.ensures (record { sound = c.requires.ready.sound; fit = vacated_fit c.args.hand.order c.args.k _ _ _ _ _ _ refl refl c.requires.ready.fit })
 
 pub returns-then-is_some-clause-call : goal.returns-then-is_some-clause-call
 returns-then-is_some-clause-call g c =

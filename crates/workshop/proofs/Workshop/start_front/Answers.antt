@@ -1,18 +1,8 @@
 use Rattle.std.proofs.Common.{arith}
 use Rattle.elements.specs.Elements.{line_le}
-use Rattle.simulations.proofs.Entering.{front_fit, front_order, front_starts, front_none}
+use Rattle.simulations.proofs.Entering.{front_fit, front_starts, front_none}
 use Rattle.workshop.proofs.Fronts.{took_front}
 use Rattle.workshop.proofs.Workshop.start_front.Goals as goal
-
-pub start-requires-clause-order : goal.start-requires-clause-order
-start-requires-clause-order g c =
-    let r = c.requires in
-    rw c.new.ensures (front_order _ _ _ _ _ _ r.declared r.ready.fit c.in-Some.entry (took_front line_le _ _ _ _ r.declared c.take.ensures.effect _ _ _ c.ok.ensures.value c.flatten-front.ensures c.in-Some.is))
-
-pub start-requires-clause-ready : goal.start-requires-clause-ready
-start-requires-clause-ready g c =
-    let r = c.requires in
-    record { sound = (r.ready.sound.0, c.take.ensures.sound); fit = front_fit _ _ _ _ _ _ r.declared r.ready.fit _ (took_front line_le _ _ _ _ r.declared c.take.ensures.effect _ _ _ c.ok.ensures.value c.flatten-front.ensures c.in-Some.is) }
 
 pub returns-in-Some-clause-call : goal.returns-in-Some-clause-call
 returns-in-Some-clause-call g c =

@@ -1,8 +1,6 @@
 use Rattle.std.proofs.Common.{refl, arith}
 use Rattle.stores.proofs.Answering.{unchanged_over}
-use Rattle.simulations.proofs.Fitting.{state_fit}
-use Rattle.simulations.proofs.Withdrawing.{withdraw_waiting, withdraw_missed, withdraw_serving, interrupted_fit, interrupted_bench, interrupted_place}
-use Rattle.workshop.specs.Workshop.{control}
+use Rattle.simulations.proofs.Withdrawing.{withdraw_waiting, withdraw_missed, withdraw_serving, interrupted_fit}
 use Rattle.workshop.proofs.Pulling.{waited, served, was_missed, waited_left, served_left, missed_left}
 use Rattle.workshop.proofs.Workshop.withdraw.Goals as goal
 
@@ -18,25 +16,6 @@ returns-in-Missed-clause-call g c =
     let q = c.pull_out.ensures in
     let e = missed_left c.args.i c.args.kind _ _ _ c.requires.kind q.answer q.left c.in-Missed.is in
     rw (c.note-in-Missed.ensures, e) (withdraw_missed c.args.i _ _ _ _ _ _ c.requires.ready.fit (omega (arith, c.requires.places)) _ refl (was_missed c.args.i c.args.kind _ _ _ c.requires.kind q.answer q.left c.in-Missed.is).told refl refl)
-
-pub start_front-requires-clause-place : goal.start_front-requires-clause-place
-start_front-requires-clause-place g c =
-    let w = c.args.self.now in
-    let q = c.pull_out.ensures in
-    let k = c.in-FromBench.station in
-    let s = c.in-FromBench.stamp in
-    let e = served_left c.args.i c.args.kind _ _ _ c.requires.kind q.answer q.left k s c.in-FromBench.is in
-    rw (c.clear_bench.ensures, e) (interrupted_place c.args.i k (control w) _ w.places.now _ refl refl c.requires.places)
-
-pub start_front-requires-clause-bench : goal.start_front-requires-clause-bench
-start_front-requires-clause-bench g c =
-    let w = c.args.self.now in
-    let q = c.pull_out.ensures in
-    let k = c.in-FromBench.station in
-    let s = c.in-FromBench.stamp in
-    let e = served_left c.args.i c.args.kind _ _ _ c.requires.kind q.answer q.left k s c.in-FromBench.is in
-    let is = served c.args.i c.args.kind _ _ _ c.requires.kind q.answer q.left k s c.in-FromBench.is in
-    rw (c.clear_bench.ensures, e) (interrupted_bench c.args.i k (control w) _ (state_fit w.net.now c.args.i _ c.requires.ready.fit.network is) c.requires.ready.fit.network refl)
 
 pub start_front-requires-clause-ready : goal.start_front-requires-clause-ready
 start_front-requires-clause-ready g c =

@@ -1,20 +1,20 @@
-use Rattle.std.proofs.Common.{sym, refl, ◌∙◌, arith}
+use Rattle.std.proofs.Common.{sym, ◌∙◌, arith}
 use Rattle.simulations.proofs.Closing.{apart, shut_fit, close_fills, close_kept}
 use Rattle.workshop.proofs.Workshop.close.Goals as goal
 
 pub returns-then-stays_open-clause-call : goal.returns-then-stays_open-clause-call
-returns-then-stays_open-clause-call g c = rw c.note.ensures (close_kept _ _ _ _ _ _ _ _ (sym (sym c.if-stays_open.true ∙ c.stays_open.ensures.answer)) (omega (arith, c.requires.places)) c.requires.ready.fit refl refl)
+returns-then-stays_open-clause-call g c = rw c.note.ensures (close_kept _ _ _ _ _ _ (sym (sym c.if-stays_open.true ∙ c.stays_open.ensures.answer)) (omega (arith, c.requires.places)) c.requires.ready.fit)
 
 pub fill-requires-clause-ready : goal.fill-requires-clause-ready
 fill-requires-clause-ready g c =
     let r = c.requires in
     let p = c.in-Ok.ensures in
     let ne = apart c.args.k c.args.j c.args.self.now.net.now (sym (sym c.if-stays_open.false ∙ c.stays_open.ensures.answer)) in
-    rw c.shut.ensures (record { sound = (r.ready.sound.0, p.sound); fit = shut_fit _ _ r.declared r.second ne _ _ _ _ r.ready.fit _ _ p.effect _ _ refl refl })
+    rw c.shut.ensures (record { sound = (r.ready.sound.0, p.sound); fit = shut_fit _ _ r.declared r.second ne _ _ _ _ r.ready.fit _ _ p.effect })
 
 pub returns-in-Ok-clause-call : goal.returns-in-Ok-clause-call
 returns-in-Ok-clause-call g c =
     let r = c.requires in
     let open_is = sym (sym c.if-stays_open.false ∙ c.stays_open.ensures.answer) in
     let ne = apart c.args.k c.args.j c.args.self.now.net.now open_is in
-    close_fills _ _ r.declared r.second ne _ _ _ _ r.ready.fit _ _ c.in-Ok.ensures.effect _ _ refl refl open_is (omega (arith, r.places)) _ (rw c.shut.ensures at c.fill.ensures.call)
+    close_fills _ _ r.declared r.second ne _ _ _ _ r.ready.fit _ _ c.in-Ok.ensures.effect open_is (omega (arith, r.places)) _ (rw c.shut.ensures at c.fill.ensures.call)

@@ -9,13 +9,13 @@ returns-in-FromLine-clause-call g c =
     let q = c.pull_out.ensures in
     let s = c.in-FromLine.stamp in
     let e = waited_left c.args.i c.args.kind _ _ _ c.requires.kind q.answer q.left s c.in-FromLine.is in
-    rw (c.note.ensures, e) (withdraw_waiting c.args.i _ _ _ _ _ _ c.requires.ready.fit (omega (arith, c.requires.places)) s _ _ (waited c.args.i c.args.kind _ _ _ c.requires.kind q.answer q.left s c.in-FromLine.is) (rw e at c.cancel.ensures.effect) (unchanged_over g.O.Store.meaning _ _ _ (rw e at c.cancel.ensures.refused)) refl refl)
+    rw (c.note.ensures, e) (withdraw_waiting c.args.i _ _ _ _ c.requires.ready.fit (omega (arith, c.requires.places)) s _ _ (waited c.args.i c.args.kind _ _ _ c.requires.kind q.answer q.left s c.in-FromLine.is) (rw e at c.cancel.ensures.effect) (unchanged_over g.O.Store.meaning _ _ _ (rw e at c.cancel.ensures.refused)))
 
 pub returns-in-Missed-clause-call : goal.returns-in-Missed-clause-call
 returns-in-Missed-clause-call g c =
     let q = c.pull_out.ensures in
     let e = missed_left c.args.i c.args.kind _ _ _ c.requires.kind q.answer q.left c.in-Missed.is in
-    rw (c.note-in-Missed.ensures, e) (withdraw_missed c.args.i _ _ _ _ _ _ c.requires.ready.fit (omega (arith, c.requires.places)) _ refl (was_missed c.args.i c.args.kind _ _ _ c.requires.kind q.answer q.left c.in-Missed.is).told refl refl)
+    rw (c.note-in-Missed.ensures, e) (withdraw_missed c.args.i _ _ _ _ c.requires.ready.fit (omega (arith, c.requires.places)) _ refl (was_missed c.args.i c.args.kind _ _ _ c.requires.kind q.answer q.left c.in-Missed.is).told)
 
 pub start_front-requires-clause-ready : goal.start_front-requires-clause-ready
 start_front-requires-clause-ready g c =
@@ -24,7 +24,7 @@ start_front-requires-clause-ready g c =
     let k = c.in-FromBench.station in
     let s = c.in-FromBench.stamp in
     let e = served_left c.args.i c.args.kind _ _ _ c.requires.kind q.answer q.left k s c.in-FromBench.is in
-    rw (c.clear_bench.ensures, e) (record { sound = (c.cancel-in-FromBench.ensures.sound, c.requires.ready.sound.1); fit = interrupted_fit c.args.i _ _ _ _ _ _ c.requires.ready.fit (omega (arith, c.requires.places)) k s _ _ (rw e at c.cancel-in-FromBench.ensures.effect) refl refl })
+    rw (c.clear_bench.ensures, e) (record { sound = (c.cancel-in-FromBench.ensures.sound, c.requires.ready.sound.1); fit = interrupted_fit c.args.i _ _ _ _ c.requires.ready.fit (omega (arith, c.requires.places)) k s _ _ (rw e at c.cancel-in-FromBench.ensures.effect) })
 
 pub returns-in-FromBench-clause-call : goal.returns-in-FromBench-clause-call
 returns-in-FromBench-clause-call g c =
@@ -38,5 +38,5 @@ returns-in-FromBench-clause-call g c =
     record {
       fit = p.fit;
       few = omega (arith, p.few);
-      outcome = withdraw_serving c.args.i _ _ _ _ _ _ c.requires.ready.fit (omega (arith, c.requires.places)) k s _ _ (rw e at c.cancel-in-FromBench.ensures.effect) refl refl _ (unchanged_over g.E.Store.meaning _ _ _ (rw e at c.cancel-in-FromBench.ensures.refused)) is p.outcome;
+      outcome = withdraw_serving c.args.i _ _ _ _ c.requires.ready.fit (omega (arith, c.requires.places)) k s _ _ (rw e at c.cancel-in-FromBench.ensures.effect) _ (unchanged_over g.E.Store.meaning _ _ _ (rw e at c.cancel-in-FromBench.ensures.refused)) is p.outcome;
     }

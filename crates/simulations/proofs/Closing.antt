@@ -87,9 +87,6 @@ module _ (k j : ℕ) (k-is : IsStation k) (j-is : IsStation j) (ne : j ≡ k →
       ∙ ap (λ b. cond b (Err QueueNumber) (cond (eqb j k) (Err SameQueue) (Ok (count_of l.state k)))) (lt-leb 32 k k-is)
       ∙ ap (λ b. cond b (Err SameQueue) (Ok (count_of l.state k))) (ne_eqb j k ne)
 
-  pub never_refused : (f : Refusal) (l2 : Meaning LineEntry) → Melds line_le l j k (Err f) l2 → ⊥
-  never_refused f l2 p = let e : ◌≡◌ {A = Result ℕ Refusal} (Err f) (Ok (count_of l.state k)) = p.answer ∙ meld_is in let y : ◌≡◌ {A = ℕ} 0 1 = cc in absurd (omega arith)
-
   module _ (d : Control) (m : Meaning Event) (ps : List Record) (h : Fit (simulation d m l ps)) (n : ℕ) (l2 : Meaning LineEntry) (p : Melds line_le l j k (Ok n) l2) where
     abbrev a : Simulation
     a = simulation d m l ps

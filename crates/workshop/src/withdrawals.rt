@@ -15,7 +15,7 @@ use elements::{Event, EventKind, LineEntry};
 use machine::{OrderState, RecordKind};
 use stores::Agenda;
 
-// Where a withdrawal finds the order, with the stamp of the entry to cancel.
+// Where a withdrawal finds the order, with the stamp of the entry to cancel. Three cases, so no Option.
 #[derive(Clone, Copy)]
 pub(crate) enum Withdrawal {
     FromLine { stamp: u16 },
@@ -24,7 +24,8 @@ pub(crate) enum Withdrawal {
 }
 
 impl<E: Agenda<Item = Event>, O: Agenda<Item = LineEntry>> Workshop<'_, E, O> {
-    // Order i, where it waits or is in service and the event is a withdrawal, is withdrawn.
+    // Order i, where it waits or is in service and the event is a withdrawal, is withdrawn. Its state is matched in place, and
+    // with the event in one: that is a rule of the project.
     fn pull_out(&mut self, i: u16, kind: EventKind) -> Withdrawal
         requires order { IsOrder i }
         ensures answer { result ≡ withdrawal (order self.old.net.now i).state kind }

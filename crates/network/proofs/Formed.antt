@@ -1,5 +1,5 @@
 -- What a form comes to, from the values that its calls leave.
-use Rattle.std.proofs.Common.{◌≡◌, ℕ, true, Some, None, Ok, Err, Result, sym, refl, ap, ◌∙◌, subst}
+use Rattle.std.proofs.Common.{◌≡◌, ℕ, Some, None, Ok, Err, Result, sym, refl, ap, ◌∙◌, subst}
 use Rattle.std.specs.Result.{IsErrAnd}
 use Rattle.std.proofs.lemmas.Result.{err_from_is_err_and}
 use Rattle.elements.specs.declared.events.Event.{Event}
@@ -8,16 +8,24 @@ use Rattle.elements.specs.declared.lines.LineEntry.{LineEntry}
 use Rattle.stores.specs.Meaning.{Meaning}
 use Rattle.machine.specs.declared.networks.Network.{Network}
 use Rattle.machine.specs.declared.forms.Form.{Form}
+use Rattle.machine.specs.declared.forms.Form.TheVariants.{Station, Order, Withdraw, Close, End}
 use Rattle.machine.specs.declared.forms.FormRefusal.{FormRefusal}
 use Rattle.machine.specs.Machine.{Machine}
 use Rattle.machine.specs.Puts.{Continuation, put_event}
-use Rattle.machine.specs.Forms.{in_range, accept, announced, event_at}
+use Rattle.machine.specs.Forms.{accept, announced, event_at}
 use Rattle.simulations.specs.Conditions.{KindFit, NetworkFit, Fit}
 use Rattle.simulations.specs.Drafts.{draft, refused_at_once, Forms}
 use Rattle.simulations.proofs.Forming.{Announces, form_refused_at_once, form_accepted, form_put_refused, no_write, announced_only}
 use Rattle.network.specs.Checks.{at_once, refusal_in}
 use Rattle.network.specs.Networks.{Announced}
-use Rattle.network.proofs.Ranges.{same_check, passed}
+
+-- the check is the machine's
+same_check : (f : Form) (n : Network) (m : Meaning Event) (l : Meaning LineEntry) → refused_at_once f n m l ≡ at_once f n m.state.next
+same_check (Station k b d w x) n m l = refl
+same_check (Order i t u v k) n m l = refl
+same_check (Withdraw i t) n m l = refl
+same_check (Close k t j) n m l = refl
+same_check (End t) n m l = refl
 
 -- an error that is passed on
 passed_on : (r : Result (Unit {0}) FormRefusal) (x : FormRefusal) → IsErrAnd r (λ e. e ≡ x) → refusal_in r ≡ Some x
@@ -37,9 +45,6 @@ module _ (f : Form) (n : Network) (m : Meaning Event) (l : Meaning LineEntry) (h
   module _ (u : Unit {0}) (is : q ≡ Ok u) where
     pub passes : refused_at_once f n m l ≡ None
     passes = told ∙ ap refusal_in is
-
-    pub ranged : in_range f ≡ true
-    ranged = passed (in_range f) _ _ (sym checked ∙ ap refusal_in is)
 
     -- it puts an event
     module _ (then : Continuation) (write : Network → Network) (p : Announces then write) (at : ℕ) (kind : EventKind) (says : (v : Machine) → accept f v ≡ put_event (event_at at kind) then v) (fit : KindFit kind) (m2 : Meaning Event) where

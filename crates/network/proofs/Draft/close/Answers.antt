@@ -1,8 +1,7 @@
-use Rattle.std.proofs.Common.{refl, arith}
+use Rattle.std.proofs.Common.{refl, rules}
 use Rattle.machine.specs.declared.forms.Form.TheVariants.{Close as a-closing}
 use Rattle.elements.specs.declared.events.EventKind.TheVariants.{Close}
-use Rattle.network.proofs.Ranges.{close_numbers}
-use Rattle.network.proofs.Formed.{fails_by, ranged, announces}
+use Rattle.network.proofs.Formed.{fails_by, announces}
 use Rattle.network.proofs.Draft.close.Goals as goal
 
 pub returns-in_err-check-clause-forms : goal.returns-in_err-check-clause-forms
@@ -17,5 +16,4 @@ returns-clause-forms g c =
     let n = a.self.now.net.now in
     let m = g.E.Store.meaning a.events.now in
     let l = g.O.Store.meaning a.orders.now in
-    let x = close_numbers a.station a.at a.into (ranged f n m l c.requires.fit _ _ c.issued.ensures.answer c.check.ensures _ c.in_ok-check.was) in
-    announces f n m l c.requires.fit _ _ c.issued.ensures.answer c.check.ensures _ c.in_ok-check.was a.at (Close a.station a.into) (λ v. refl) (omega (arith, x.0), omega (arith, x.1)) _ _ c.announce.ensures.put
+    announces f n m l c.requires.fit _ _ c.issued.ensures.answer c.check.ensures _ c.in_ok-check.was a.at (Close a.station a.into) (λ v. refl) (search rules) _ _ c.announce.ensures.put

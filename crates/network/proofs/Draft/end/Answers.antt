@@ -1,8 +1,7 @@
-use Rattle.std.proofs.Common.{refl}
+use Rattle.std.proofs.Common.{refl, rules}
 use Rattle.machine.specs.declared.forms.Form.TheVariants.{End}
 use Rattle.simulations.proofs.Forming.{end_formed}
-use Rattle.network.proofs.Ranges.{end_number}
-use Rattle.network.proofs.Formed.{fails, passes, ranged}
+use Rattle.network.proofs.Formed.{fails, passes}
 use Rattle.network.proofs.Draft.end.Goals as goal
 
 pub returns-in-Err : goal.returns-in-Err
@@ -16,7 +15,7 @@ returns g c =
     let l = g.O.Store.meaning c.args.orders.now in
     record {
       ends = record {
-        fit = record { network = h.network; instant = h.instant; end = end_number c.args.at (ranged (End c.args.at) n m l h _ _ c.issued.ensures.answer c.check.ensures _ c.in_default.is); events = h.events; lines = h.lines };
+        fit = record { network = h.network; instant = h.instant; end = search rules; events = h.events; lines = h.lines };
         whole = end_formed n m l h c.args.at (passes (End c.args.at) n m l h _ _ c.issued.ensures.answer c.check.ensures _ c.in_default.is);
         not_over = refl;
       };

@@ -1,10 +1,9 @@
-use Rattle.std.proofs.Common.{ℕ, Option, ap, ◌∙◌}
+use Rattle.std.proofs.Common.{ℕ, Option, ap, ◌∙◌, rules}
 use Rattle.machine.specs.declared.forms.Form.TheVariants.{Station as a-station}
 use Rattle.machine.specs.Network.{with_new_station}
 use Rattle.machine.specs.Forms.{new_station}
 use Rattle.simulations.proofs.Forming.{station_formed}
-use Rattle.network.proofs.Ranges.{station_numbers, new_station_fit}
-use Rattle.network.proofs.Formed.{fails_by, passes, ranged}
+use Rattle.network.proofs.Formed.{fails_by, passes}
 use Rattle.network.proofs.Draft.station.Goals as goal
 
 pub returns-in_err-check-clause-forms : goal.returns-in_err-check-clause-forms
@@ -19,5 +18,4 @@ returns-clause-forms g c =
     let n = a.self.now.net.now in
     let m = g.E.Store.meaning a.events.now in
     let l = g.O.Store.meaning a.orders.now in
-    let x = station_numbers a.station a.benches a.takes a.holds a.next (ranged f n m l c.requires.fit _ _ c.issued.ensures.answer c.check.ensures _ c.in_ok-check.was) in
-    station_formed n m l c.requires.fit _ _ _ _ _ (passes f n m l c.requires.fit _ _ c.issued.ensures.answer c.check.ensures _ c.in_ok-check.was) (new_station_fit _ _ _ _ _ x) _ (c.add_station.ensures ∙ ap (λ (o : Option ℕ). with_new_station n a.station (new_station a.benches a.takes a.holds o)) c.narrowed.ensures)
+    station_formed n m l c.requires.fit _ _ _ _ _ (passes f n m l c.requires.fit _ _ c.issued.ensures.answer c.check.ensures _ c.in_ok-check.was) (search rules) _ (c.add_station.ensures ∙ ap (λ (o : Option ℕ). with_new_station n a.station (new_station a.benches a.takes a.holds o)) c.narrowed.ensures)

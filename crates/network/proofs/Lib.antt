@@ -1,2 +1,2 @@
 mod NextStations
-mod Ranges
+mod Formed

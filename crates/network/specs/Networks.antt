@@ -1,13 +1,18 @@
 -- What draft, running and ended network are to the machine.
 use Rattle.std.specs.Prelude.{◌≡◌, ℕ, Bool, true, false, List, [], Some, None, Ok, Err, Option, Result}
 use Rattle.elements.specs.declared.events.Event.{Event}
+use Rattle.elements.specs.declared.events.EventKind.{EventKind}
 use Rattle.elements.specs.declared.lines.LineEntry.{LineEntry}
+use Rattle.elements.specs.Elements.{event_le}
+use Rattle.stores.specs.declared.refusals.Refusal.{Refusal}
+use Rattle.stores.specs.Promises.{Puts}
 use Rattle.stores.specs.Meaning.{Meaning}
 use Rattle.stores.specs.declared.refusals.Unfit.{Unfit}
 use Rattle.stores.specs.declared.refusals.Unfit.TheVariants.{NotFresh}
 use Rattle.machine.specs.declared.networks.Network.{Network}
 use Rattle.machine.specs.declared.forms.Form.TheVariants.{End as an-end}
 use Rattle.machine.specs.declared.forms.FormRefusal.{FormRefusal}
+use Rattle.machine.specs.declared.forms.FormRefusal.TheVariants.{Store}
 use Rattle.machine.specs.declared.forms.ScriptRefusal.{ScriptRefusal}
 use Rattle.machine.specs.declared.records.Record.{Record}
 use Rattle.machine.specs.declared.records.Fault.{Fault as RunFault}
@@ -20,7 +25,8 @@ use Rattle.outcomes.specs.Simulation.{Simulation}
 use Rattle.outcomes.specs.Outcomes.{Whole}
 use Rattle.simulations.specs.Conditions.{Fit}
 use Rattle.simulations.specs.Drafts.{draft, Forms}
-use Rattle.workshop.specs.Workshop.{simulated, at_start}
+use Rattle.simulations.specs.Writes.{simulation}
+use Rattle.workshop.specs.Workshop.{under_way}
 use Rattle.network.specs.declared.Draft.{Draft}
 use Rattle.network.specs.declared.Running.{Running}
 use Rattle.network.specs.declared.Ended.{Ended}
@@ -41,24 +47,19 @@ abbrev pub MakesDraft : Result (Unit {0}) Unfit → Meaning Event → Meaning Li
 MakesDraft (Ok u) m l = Unused m l
 MakesDraft (Err e) m l = (e ≡ NotFresh) × (Unused m l → ⊥)
 
--- why a form was refused, if it was
-abbrev pub refusal_in : {A : Type 0} → Result A FormRefusal → Option FormRefusal
-refusal_in (Ok a) = None
-refusal_in (Err r) = Some r
+-- the event of a form was put, or the store's refusal of it is that of the form
+abbrev pub Announced : ℕ → EventKind → Meaning Event → Result (Unit {0}) FormRefusal → Meaning Event → Type 0
+Announced t x m (Ok u) n = (k : ℕ) × Puts event_le m 0 (record { time = t; kind = x }) (Ok k) n
+Announced t x m (Err r) n = (f : Refusal) × (r ≡ Store f) × Puts event_le m 0 (record { time = t; kind = x }) (Err f) n
 
--- A running network is a workshop at work; the lent places are written from the first on.
-
-abbrev pub running : Running → Meaning Event → Meaning LineEntry → List Record → Simulation
-running r m l ps = simulated r.shop m l ps
-
--- the same before the next step writes
-abbrev pub before_step : Running → Meaning Event → Meaning LineEntry → List Record → Simulation
-before_step r m l ps = at_start r.shop m l ps
+-- a running network with both stores and the lent places, of which so many are written
+abbrev pub running : Running → ℕ → Meaning Event → Meaning LineEntry → List Record → Simulation
+running r n m l ps = simulation (under_way r.net.now r.run n) m l ps
 
 -- the end form was accepted: the run begins, and no step has told anything
 pub record Begins (t : ℕ) (d : Draft) (m : Meaning Event) (l : Meaning LineEntry) (r : Running) : Type 0 where
-  pub fit : Fit (running r m l [])
-  pub whole : (earlier : Option ScriptRefusal) → Whole (form (an-end t)) (drafted d m l earlier) (running r m l [])
+  pub fit : Fit (running r 0 m l [])
+  pub whole : (earlier : Option ScriptRefusal) → Whole (form (an-end t)) (drafted d m l earlier) (running r 0 m l [])
   pub not_over : r.over ≡ false
 
 -- it was refused: the draft is given back as it was
@@ -75,9 +76,9 @@ is_over Faulted = true
 -- An ended network is made of a running one just after that.
 pub record Concluded (r : Running) (e : Ended) : Type 0 where
   pub over : r.over ≡ true
-  pub network : e.net.now ≡ r.shop.net.now
-  pub end : e.end ≡ r.shop.end
-  pub fault : e.fault ≡ r.shop.fault
+  pub network : e.net.now ≡ r.net.now
+  pub end : e.end ≡ r.run.end
+  pub fault : e.fault ≡ r.run.fault
 
 abbrev pub Concludes : Running → Result Ended Running → Type 0
 Concludes r (Ok e) = Concluded r e

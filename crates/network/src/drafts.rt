@@ -1,7 +1,5 @@
 // A network that takes forms.
 ghost use Rattle.std.specs.Prelude.{◌≡◌, ◌<◌, None};
-ghost use Rattle.elements.specs.Elements.{event_le, line_le};
-ghost use Rattle.stores.specs.Meaning.{WellFormed};
 ghost use Rattle.machine.specs.Network.{cleared};
 ghost use Rattle.machine.specs.Machine.{bounds_of, start_machine};
 ghost use Rattle.outcomes.specs.Simulation.{machine_of};
@@ -11,35 +9,16 @@ ghost use Rattle.network.specs.Networks.{drafted, Unused, MakesDraft};
 
 use crate::Draft;
 use elements::{Event, LineEntry};
-use machine::{Declared, Network, Order, OrderState, Station};
+use machine::{Declared, Network, Order, Station};
 use stores::{Agenda, Unfit};
-
-const NO_STATION: Station = Station {
-    benches: 0,
-    busy: 0,
-    takes: 0,
-    holds: 0,
-    next: None,
-    into: None,
-};
-
-const NO_ORDER: Order = Order {
-    urgency: 0,
-    due: 0,
-    start: 0,
-    state: OrderState::NotYet,
-};
 
 // No station and no order is declared.
 fn clear(net: &mut Network)
     ensures { net.new ≡ cleared }
 {
-    net.stations = [NO_STATION; 32];
-    net.orders = [NO_ORDER; 1024];
-    net.declared = Declared {
-        stations: 0,
-        orders: 0,
-    };
+    net.stations = [Station::default(); 32];
+    net.orders = [Order::default(); 1024];
+    net.declared = Declared::default();
 }
 
 impl<'a> Draft<'a> {
@@ -51,10 +30,7 @@ impl<'a> Draft<'a> {
         requires sound { (E.Store.sound events.now) × (O.Store.sound orders.now) }
         ensures test { MakesDraft result (E.Store.meaning events.now) (O.Store.meaning orders.now) }
     {
-        if events.issued() != 0 {
-            return Err(Unfit::NotFresh);
-        }
-        if orders.issued() != 0 {
+        if events.issued() != 0 || orders.issued() != 0 {
             return Err(Unfit::NotFresh);
         }
         Ok(())
@@ -67,7 +43,6 @@ impl<'a> Draft<'a> {
         orders: &O,
     ) -> Draft<'a>
         requires sound { (E.Store.sound events.now) × (O.Store.sound orders.now) }
-        requires formed { (WellFormed event_le (E.Store.meaning events.now)) × (WellFormed line_le (O.Store.meaning orders.now)) }
         requires unused { Unused (E.Store.meaning events.now) (O.Store.meaning orders.now) }
         ensures fit { Fit (drafted result (E.Store.meaning events.now) (O.Store.meaning orders.now) None) }
         ensures start { machine_of nothing (drafted result (E.Store.meaning events.now) (O.Store.meaning orders.now) None) ≡ start_machine (bounds_of (E.Store.meaning events.now).fixed) (bounds_of (O.Store.meaning orders.now).fixed) None }

@@ -8,7 +8,7 @@ use closing::totals;
 use machine::{Fault, Totals};
 
 // The closing line: the end with the orders by state, or the fault that ended the run before.
-#[derive(Clone, Copy)]
+#[derive(Clone, Copy, PartialEq, Eq, Debug)]
 pub enum Closing {
     End { at: u32, totals: Totals },
     Fault { fault: Fault },

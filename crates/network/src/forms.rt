@@ -7,10 +7,11 @@ ghost use Rattle.machine.specs.Forms.{new_station, new_order};
 ghost use Rattle.simulations.specs.Calls.{ByAnswer};
 ghost use Rattle.simulations.specs.Conditions.{WhenSome, Fit};
 ghost use Rattle.simulations.specs.Drafts.{Forms};
-ghost use Rattle.network.specs.Networks.{drafted, refusal_in};
+ghost use Rattle.network.specs.Checks.{refusal_in};
+ghost use Rattle.network.specs.Networks.{drafted, Announced};
 
 use crate::Draft;
-use crate::checks::refusal;
+use crate::checks::check;
 use elements::{Event, EventKind, LineEntry};
 use machine::{Form, FormRefusal, Order, OrderState, Station};
 use stores::Agenda;
@@ -20,10 +21,22 @@ fn narrowed(next: Option<u32>) -> Option<u8>
     requires range { WhenSome (λ k. k ≤ 31) next }
     ensures { result ≡ next }
 {
-    match next {
-        None => None,
-        Some(station) => Some(station as u8),
-    }
+    next.map(|k| k as u8)
+}
+
+// Puts the event of a form at a tick.
+fn announce<E: Agenda<Item = Event>>(
+    events: &mut E,
+    at: u32,
+    kind: EventKind,
+) -> Result<(), FormRefusal>
+    requires sound { E.Store.sound events.old }
+    ensures sound { E.Store.sound events.new }
+    ensures put { Announced at kind (E.Store.meaning events.old) result (E.Store.meaning events.new) }
+    ensures refused { ByAnswer result (λ _. Unit {0}) (events.new ≡ events.old) }
+{
+    events.put(0, Event { time: at, kind })?;
+    Ok(())
 }
 
 impl<'a> Draft<'a> {
@@ -69,21 +82,17 @@ impl<'a> Draft<'a> {
             holds,
             next,
         };
-        match refusal(self.net, events.issued(), form) {
-            Some(why) => Err(why),
-            None => {
-                let new = Station {
-                    benches: benches as u8,
-                    busy: 0,
-                    takes,
-                    holds: holds as u16,
-                    next: narrowed(next),
-                    into: None,
-                };
-                self.add_station(station as usize, new);
-                Ok(())
-            }
-        }
+        check(self.net, events.issued(), form)?;
+        let new = Station {
+            benches: benches as u8,
+            busy: 0,
+            takes,
+            holds: holds as u16,
+            next: narrowed(next),
+            into: None,
+        };
+        self.add_station(station as usize, new);
+        Ok(())
     }
 
     // An order: its number, when it arrives, its urgency, its due tick, and where it arrives.
@@ -110,28 +119,20 @@ impl<'a> Draft<'a> {
             due,
             start,
         };
-        match refusal(self.net, events.issued(), form) {
-            Some(why) => Err(why),
-            None => {
-                let kind = EventKind::Arrive {
-                    order: order as u16,
-                    station: start as u8,
-                };
-                match events.put(0, Event { time: at, kind }) {
-                    Ok(_) => {
-                        let new = Order {
-                            urgency: urgency as u8,
-                            due,
-                            start: start as u8,
-                            state: OrderState::NotYet,
-                        };
-                        self.add_order(order as usize, new);
-                        Ok(())
-                    }
-                    Err(refused) => Err(FormRefusal::Store { refusal: refused }),
-                }
-            }
-        }
+        check(self.net, events.issued(), form)?;
+        let kind = EventKind::Arrive {
+            order: order as u16,
+            station: start as u8,
+        };
+        announce(events, at, kind)?;
+        let new = Order {
+            urgency: urgency as u8,
+            due,
+            start: start as u8,
+            state: OrderState::NotYet,
+        };
+        self.add_order(order as usize, new);
+        Ok(())
     }
 
     // The withdrawal of an order at a tick.
@@ -148,18 +149,11 @@ impl<'a> Draft<'a> {
         ensures forms { Forms (a-withdrawal order at) (drafted self.old (E.Store.meaning events.old) (O.Store.meaning orders.old)) (drafted self.new (E.Store.meaning events.new) (O.Store.meaning orders.new)) (refusal_in result) }
         ensures refused { ByAnswer result (λ _. Unit {0}) ((self.new ≡ self.old) × (events.new ≡ events.old) × (orders.new ≡ orders.old)) }
     {
-        match refusal(self.net, events.issued(), Form::Withdraw { order, at }) {
-            Some(why) => Err(why),
-            None => {
-                let kind = EventKind::Withdraw {
-                    order: order as u16,
-                };
-                match events.put(0, Event { time: at, kind }) {
-                    Ok(_) => Ok(()),
-                    Err(refused) => Err(FormRefusal::Store { refusal: refused }),
-                }
-            }
-        }
+        check(self.net, events.issued(), Form::Withdraw { order, at })?;
+        let kind = EventKind::Withdraw {
+            order: order as u16,
+        };
+        announce(events, at, kind)
     }
 
     // The closing of a station into another at a tick.
@@ -177,18 +171,11 @@ impl<'a> Draft<'a> {
         ensures forms { Forms (a-closing station at into) (drafted self.old (E.Store.meaning events.old) (O.Store.meaning orders.old)) (drafted self.new (E.Store.meaning events.new) (O.Store.meaning orders.new)) (refusal_in result) }
         ensures refused { ByAnswer result (λ _. Unit {0}) ((self.new ≡ self.old) × (events.new ≡ events.old) × (orders.new ≡ orders.old)) }
     {
-        match refusal(self.net, events.issued(), Form::Close { station, at, into }) {
-            Some(why) => Err(why),
-            None => {
-                let kind = EventKind::Close {
-                    station: station as u8,
-                    into: into as u8,
-                };
-                match events.put(0, Event { time: at, kind }) {
-                    Ok(_) => Ok(()),
-                    Err(refused) => Err(FormRefusal::Store { refusal: refused }),
-                }
-            }
-        }
+        check(self.net, events.issued(), Form::Close { station, at, into })?;
+        let kind = EventKind::Close {
+            station: station as u8,
+            into: into as u8,
+        };
+        announce(events, at, kind)
     }
 }

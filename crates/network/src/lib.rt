@@ -11,8 +11,8 @@ mod runs;
 
 pub use endings::Closing;
 use machine::{Fault, Network};
+use workshop::Run;
 pub use workshop::Step;
-use workshop::Workshop;
 
 // A network that takes forms.
 pub struct Draft<'a> {
@@ -21,7 +21,8 @@ pub struct Draft<'a> {
 
 // A network that takes steps.
 pub struct Running<'a> {
-    shop: Workshop<'a>,
+    net: &'a mut Network,
+    run: Run,
     // a step has told the end or a fault
     over: bool,
 }

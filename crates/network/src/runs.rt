@@ -3,25 +3,14 @@ ghost use Rattle.std.specs.Prelude.{◌≡◌, ◌<◌, length, None};
 ghost use Rattle.machine.specs.Lent.{step_places};
 ghost use Rattle.simulations.specs.Calls.{ByAnswer, Steps};
 ghost use Rattle.simulations.specs.Conditions.{Fit};
-ghost use Rattle.network.specs.Networks.{drafted, running, before_step, Ends, is_over, Concludes};
+ghost use Rattle.network.specs.Networks.{drafted, running, Ends, is_over, Concludes};
 
-use crate::checks::refusal;
+use crate::checks::check;
 use crate::{Draft, Ended, Running};
 use elements::{Event, LineEntry};
 use machine::{Form, FormRefusal, Progress, Record, TooShort};
 use stores::Agenda;
-use workshop::{Step, Workshop};
-
-// Whether a step told the end or a fault.
-fn is_over(progress: Progress) -> bool
-    ensures { result ≡ is_over progress }
-{
-    match progress {
-        Progress::Stepped => false,
-        Progress::Ended => true,
-        Progress::Faulted => true,
-    }
-}
+use workshop::{Run, Step};
 
 impl<'a> Draft<'a> {
     // The end form: the network runs until that tick. Where it is refused the draft is given back, with the reason.
@@ -35,20 +24,20 @@ impl<'a> Draft<'a> {
         requires fit { Fit (drafted self (E.Store.meaning events.now) (O.Store.meaning orders.now) None) }
         ensures ends { Ends at self.entry (E.Store.meaning events.now) (O.Store.meaning orders.now) result }
     {
-        match refusal(self.net, events.issued(), Form::End { at }) {
-            Some(why) => Err((self, why)),
-            None => {
-                let Draft { net } = self;
-                let shop = Workshop {
-                    net,
-                    instant: 0,
-                    end: at,
-                    fault: None,
-                    used: 0,
-                };
-                Ok(Running { shop, over: false })
-            }
+        if let Err(why) = check(self.net, events.issued(), Form::End { at }) {
+            return Err((self, why));
         }
+        let Draft { net } = self;
+        let run = Run {
+            instant: 0,
+            end: at,
+            fault: None,
+        };
+        Ok(Running {
+            net,
+            run,
+            over: false,
+        })
     }
 }
 
@@ -61,19 +50,15 @@ impl<'a> Running<'a> {
         places: &mut [Record],
     ) -> Result<Step, TooShort>
         requires sound { (E.Store.sound events.old) × (O.Store.sound orders.old) }
-        requires fit { Fit (running self.old (E.Store.meaning events.old) (O.Store.meaning orders.old) places.old) }
+        requires fit { Fit (running self.old 0 (E.Store.meaning events.old) (O.Store.meaning orders.old) places.old) }
         ensures sound { (E.Store.sound events.new) × (O.Store.sound orders.new) }
-        ensures steps { ByAnswer result (λ s. Steps (before_step self.old (E.Store.meaning events.old) (O.Store.meaning orders.old) places.old) (running self.new (E.Store.meaning events.new) (O.Store.meaning orders.new) places.new) s.written s.progress) (length places.old < step_places) }
+        ensures steps { ByAnswer result (λ s. Steps (running self.old 0 (E.Store.meaning events.old) (O.Store.meaning orders.old) places.old) (running self.new s.written (E.Store.meaning events.new) (O.Store.meaning orders.new) places.new) s.written s.progress) (length places.old < step_places) }
         ensures over { ByAnswer result (λ s. self.new.over ≡ is_over s.progress) (Unit {0}) }
         ensures refused { ByAnswer result (λ _. Unit {0}) ((self.new ≡ self.old) × (events.new ≡ events.old) × (orders.new ≡ orders.old) × (places.new ≡ places.old)) }
     {
-        match self.shop.step(events, orders, places) {
-            Ok(step) => {
-                self.over = is_over(step.progress);
-                Ok(step)
-            }
-            Err(refused) => Err(refused),
-        }
+        let step = self.run.step(self.net, events, orders, places)?;
+        self.over = step.progress != Progress::Stepped;
+        Ok(step)
     }
 
     // The ended network, once a step has told the end or a fault; before that the running one is given back.
@@ -81,15 +66,12 @@ impl<'a> Running<'a> {
         ensures { Concludes self.entry result }
     {
         if self.over {
-            let Running { shop, over: _ } = self;
-            let Workshop {
+            let Running { net, run, over: _ } = self;
+            Ok(Ended {
                 net,
-                instant: _,
-                end,
-                fault,
-                used: _,
-            } = shop;
-            Ok(Ended { net, end, fault })
+                end: run.end,
+                fault: run.fault,
+            })
         } else {
             Err(self)
         }

@@ -1,5 +1,5 @@
 -- A closing: the lines are melded, and then fronts start while there are free benches.
-use Rattle.std.proofs.Common.{◌≡◌, ℕ, suc, ◌+◌, ◌<◌, ◌≤◌, Bool, true, false, cond, ◌||◌, eqb, leb, List, length, Some, None, Ok, Err, Option, Result, sym, refl, ap, ◌∙◌, subst, arith, length-set}
+use Rattle.std.proofs.Common.{◌≡◌, ℕ, suc, ◌+◌, ◌<◌, ◌≤◌, Bool, true, false, cond, ◌||◌, eqb, leb, List, length, Some, None, Ok, Err, Option, Result, sym, refl, ap, ◌∙◌, subst, arith}
 use Rattle.std.proofs.lemmas.Bool.{lt-ltb, le-ltb, lt-leb, eq-eqb, ne_eqb}
 use Rattle.elements.specs.declared.events.Event.{Event}
 use Rattle.elements.specs.declared.lines.LineEntry.{LineEntry}
@@ -20,7 +20,7 @@ use Rattle.machine.specs.Network.{station, closed, has_free}
 use Rattle.machine.specs.Machine.{bounds_of, with_cut, with_lines, tell, halted, as_is}
 use Rattle.machine.specs.Step.{start_front, fill_by, fill_one, fill, stays_open, close_by, close}
 use Rattle.outcomes.specs.Simulation.{Control, Simulation, Earlier, no_takes, machine_of, cells}
-use Rattle.outcomes.specs.Outcomes.{Counted, Outcome}
+use Rattle.outcomes.specs.Outcomes.{Counted}
 use Rattle.outcomes.proofs.Onwards.{outcome_onward, outcome_quiet, outcome_none, no_takes_more}
 use Rattle.outcomes.proofs.Sequences.{outcome_then, outcome_else, written_not}
 use Rattle.outcomes.proofs.Ends.{ends_halted, tidy_as_is}
@@ -29,7 +29,6 @@ use Rattle.simulations.specs.Writes.{simulation, with_network, one_more, noted, 
 use Rattle.simulations.specs.Calls.{Call}
 use Rattle.simulations.proofs.Fitting.{each_meld, fit_closed}
 use Rattle.simulations.proofs.Writing.{machine_noted, written_noted, kept_cells, kept_counted}
-use Rattle.simulations.proofs.Spending.{call_at}
 use Rattle.simulations.proofs.Entering.{outcome_as}
 use Rattle.simulations.proofs.Finishing.{going, over}
 
@@ -88,9 +87,6 @@ module _ (k j : ℕ) (k-is : IsStation k) (j-is : IsStation j) (ne : j ≡ k →
       ∙ ap (λ b. cond b (Err QueueNumber) (cond (eqb j k) (Err SameQueue) (Ok (count_of l.state k)))) (lt-leb 32 k k-is)
       ∙ ap (λ b. cond b (Err SameQueue) (Ok (count_of l.state k))) (ne_eqb j k ne)
 
-  pub never_refused : (f : Refusal) (l2 : Meaning LineEntry) → Melds line_le l j k (Err f) l2 → ⊥
-  never_refused f l2 p = let e : ◌≡◌ {A = Result ℕ Refusal} (Err f) (Ok (count_of l.state k)) = p.answer ∙ meld_is in let y : ◌≡◌ {A = ℕ} 0 1 = cc in absurd (omega arith)
-
   module _ (d : Control) (m : Meaning Event) (ps : List Record) (h : Fit (simulation d m l ps)) (n : ℕ) (l2 : Meaning LineEntry) (p : Melds line_le l j k (Ok n) l2) where
     abbrev a : Simulation
     a = simulation d m l ps
@@ -116,42 +112,35 @@ module _ (k j : ℕ) (k-is : IsStation k) (j-is : IsStation j) (ne : j ≡ k →
         ap (λ (s : State LineEntry). with_lines (machine_of t (simulation d1 m l ps)) (record { state = s; bounds = bounds_of l2.fixed; taken = t.takes.lines })) melded
         ∙ ap (λ f. with_lines (machine_of t (simulation d1 m l ps)) (record { state = meld_after line_le l.state j k (meld_answer l.state j k); bounds = bounds_of f; taken = t.takes.lines })) p.fixed
 
-    module _ (d2 : Control) (ps2 : List Record) (de : d2 ≡ shut k j d) (pe : ps2 ≡ noted (Close k j n) d ps) where
-      pub shut_fit : Fit (simulation d2 m l2 ps2)
-      shut_fit = subst (λ (x : Control). Fit (simulation x m l2 ps2)) (sym de) (record { network = fit_closed k j d.network j-is h.network; instant = h.instant; end = h.end; events = h.events; lines = subst (Each LineFit) (sym p.after) (each_meld LineFit line_le l.state j k (Ok n) h.lines) })
+    pub shut_fit : Fit (simulation (shut k j d) m l2 (noted (Close k j n) d ps))
+    shut_fit = record { network = fit_closed k j d.network j-is h.network; instant = h.instant; end = h.end; events = h.events; lines = subst (Each LineFit) (sym p.after) (each_meld LineFit line_le l.state j k (Ok n) h.lines) }
 
-      pub shut_used : d2.used ≡ d.used + 1
-      shut_used = ap (λ (x : Control). x.used) de
-
-      pub shut_length : length ps2 ≡ length ps
-      shut_length = ap length pe ∙ length-set ps d.used (record { at = d.instant; kind = Close k j n })
-
-      -- then the benches are filled
-      pub close_fills : stays_open k j d.network ≡ false → d.used < length ps → (z : Simulation) → Call (fill 8 j) 8 (simulation d2 m l2 ps2) z → Call (close k j) 9 a z
-      close_fills e lt z q =
-          let d1 : Control = with_network d (closed k j d.network) in
-          let b : Simulation = simulation (shut k j d) m l2 (noted (Close k j n) d ps) in
-          record {
-            fit = q.fit;
-            few = omega (arith, q.few, shut_used);
-            outcome = outcome_onward (close k j) (fill 8 j) a b z (record {
-              takes = no_takes;
-              same = λ t c.
-                  ap (λ x. close_by x k j (with_cut (machine_of t a) c)) e
-                  ∙ sym (ap (λ w. fill 8 j (with_cut w c)) (machine_noted d1 m l2 ps (Close k j n) t lt ∙ ap (tell (Close k j n)) (machine_melded d1 t) ∙ ap (λ x. tell (Close k j x) (with_lines (machine_of t (simulation d1 m l ps)) (record { state = meld_after line_le l.state j k (meld_answer l.state j k); bounds = bounds_of l.fixed; taken = t.takes.lines }))) moved))
-                  ∙ ap (λ v. fill 8 j (with_cut (machine_of v b) c)) (no_takes_more t);
-              cells = shut_cells (shut k j d) (noted (Close k j n) d ps);
-              counted = shut_counted (shut k j d) (noted (Close k j n) d ps);
-              written = written_noted a b (record { at = d.instant; kind = Close k j n }) refl refl;
-            }) (subst (λ (x : Control). Outcome (fill 8 j) (simulation x m l2 (noted (Close k j n) d ps)) z) de (subst (λ (x : List Record). Outcome (fill 8 j) (simulation d2 m l2 x) z) pe q.outcome));
-          }
+    -- then the benches are filled
+    pub close_fills : stays_open k j d.network ≡ false → d.used < length ps → (z : Simulation) → Call (fill 8 j) 8 (simulation (shut k j d) m l2 (noted (Close k j n) d ps)) z → Call (close k j) 9 a z
+    close_fills e lt z q =
+        let d1 : Control = with_network d (closed k j d.network) in
+        let b : Simulation = simulation (shut k j d) m l2 (noted (Close k j n) d ps) in
+        record {
+          fit = q.fit;
+          few = omega (arith, q.few);
+          outcome = outcome_onward (close k j) (fill 8 j) a b z (record {
+            takes = no_takes;
+            same = λ t c.
+                ap (λ x. close_by x k j (with_cut (machine_of t a) c)) e
+                ∙ sym (ap (λ w. fill 8 j (with_cut w c)) (machine_noted d1 m l2 ps (Close k j n) t lt ∙ ap (tell (Close k j n)) (machine_melded d1 t) ∙ ap (λ x. tell (Close k j x) (with_lines (machine_of t (simulation d1 m l ps)) (record { state = meld_after line_le l.state j k (meld_answer l.state j k); bounds = bounds_of l.fixed; taken = t.takes.lines }))) moved))
+                ∙ ap (λ v. fill 8 j (with_cut (machine_of v b) c)) (no_takes_more t);
+            cells = shut_cells (shut k j d) (noted (Close k j n) d ps);
+            counted = shut_counted (shut k j d) (noted (Close k j n) d ps);
+            written = written_noted a b (record { at = d.instant; kind = Close k j n }) refl refl;
+          }) q.outcome;
+        }
 
 -- nothing closes
-pub close_kept : (k j : ℕ) (d d2 : Control) (m : Meaning Event) (l : Meaning LineEntry) (ps ps2 : List Record) → stays_open k j d.network ≡ true → d.used < length ps → Fit (simulation d m l ps) → d2 ≡ one_more d → ps2 ≡ noted (Kept k j) d ps → Call (close k j) 9 (simulation d m l ps) (simulation d2 m l ps2)
-close_kept k j d d2 m l ps ps2 e lt h de pe =
+pub close_kept : (k j : ℕ) (d : Control) (m : Meaning Event) (l : Meaning LineEntry) (ps : List Record) → stays_open k j d.network ≡ true → d.used < length ps → Fit (simulation d m l ps) → Call (close k j) 9 (simulation d m l ps) (simulation (one_more d) m l (noted (Kept k j) d ps))
+close_kept k j d m l ps e lt h =
     let a : Simulation = simulation d m l ps in
     let b : Simulation = simulation (one_more d) m l (noted (Kept k j) d ps) in
-    call_at (close k j) 9 a (one_more d) d2 m l (noted (Kept k j) d ps) ps2 de pe (record {
+    record {
       fit = record { network = h.network; instant = h.instant; end = h.end; events = h.events; lines = h.lines };
       few = omega arith;
       outcome = outcome_quiet (close k j) a b (record {
@@ -161,4 +150,4 @@ close_kept k j d d2 m l ps ps2 e lt h de pe =
         counted = kept_counted d (one_more d) m l ps (noted (Kept k j) d ps);
         written = written_noted a b (record { at = d.instant; kind = Kept k j }) refl refl;
       });
-    })
+    }

@@ -22,15 +22,10 @@ use Rattle.outcomes.specs.Simulation.{Control, Simulation, Earlier, Takes as Tak
 use Rattle.outcomes.specs.Outcomes.{Counted, Outcome}
 use Rattle.outcomes.proofs.Onwards.{outcome_onward, outcome_quiet, no_takes_more}
 use Rattle.outcomes.proofs.Sequences.{written_not}
-use Rattle.simulations.specs.Conditions.{IsOrder, IsStation, Fit, Each, LineFit}
+use Rattle.simulations.specs.Conditions.{IsStation, Fit, Each, LineFit}
 use Rattle.simulations.specs.Writes.{simulation}
-use Rattle.simulations.proofs.Fitting.{each_take, each_front}
+use Rattle.simulations.proofs.Fitting.{each_take}
 use Rattle.simulations.proofs.Writing.{written_kept, kept_counted}
-
--- one turn of following
-pub follow_none : (left : ℕ) (n : Network) (r : ℕ) → 0 < left → (station n r).into ≡ None → follow left n r ≡ r
-follow_none zero n r lt e = absurd (omega arith)
-follow_none (suc left) n r lt e = ap (λ o. follow_by o (follow left n) r) e
 
 pub follow_some : (left : ℕ) (n : Network) (r j : ℕ) → 0 < left → (station n r).into ≡ Some j → follow (left - 1) n j ≡ follow left n r
 follow_some zero n r j lt e = absurd (omega arith)
@@ -103,9 +98,6 @@ module _ (k : ℕ) (d : Control) (m : Meaning Event) (l l2 : Meaning LineEntry) 
 
   pub front_fit : (o : Option (Entry LineEntry)) → Takes line_le l k (Ok o) l2 → Fit b
   front_fit o p = record { network = h.network; instant = h.instant; end = h.end; events = h.events; lines = subst (Each LineFit) (sym p.after) (each_take LineFit l.state k o h.lines) }
-
-  pub front_order : (e : Entry LineEntry) → Takes line_le l k (Ok (Some e)) l2 → IsOrder e.element.order
-  front_order e p = each_front LineFit l.state k e h.lines (took line_le l l2 k lt (Some e) p)
 
   one_taken : (e : Entry LineEntry) → Takes line_le l k (Ok (Some e)) l2 → (t : Earlier) (c : Option ℕ) → with_cut (machine_of (and_takes t one_line) b) c ≡ take_line k (with_cut (machine_of t a) c)
   one_taken e p t c =

@@ -6,11 +6,11 @@ use Rattle.elements.specs.Order.{precedes_by, stamp_of}
 use Rattle.stores.specs.declared.refusals.Refusal.{Refusal}
 use Rattle.stores.specs.SortedLists.{merge, merge_at, without}
 use Rattle.stores.specs.Meaning.{State, list_of}
-use Rattle.stores.specs.Calls.{put_after, take_after, meld_after, cancel_after, front, rest}
+use Rattle.stores.specs.Calls.{put_after, take_after, meld_after, cancel_after, rest}
 use Rattle.machine.specs.declared.networks.Network.{Network}
 use Rattle.machine.specs.declared.networks.Station.{Station}
 use Rattle.machine.specs.declared.networks.OrderState.{OrderState}
-use Rattle.machine.specs.Network.{no_order, order, no_station, station, marked, occupied, freed, closed, with_busy, with_into}
+use Rattle.machine.specs.Network.{no_station, station, marked, occupied, freed, closed, with_busy, with_into}
 use Rattle.simulations.specs.Conditions.{IsStation, WhenSome, StationFit, StateFit, OrderFit, NetworkFit, Each}
 
 module _ {A : Type 0} (P : A → Type 0) where
@@ -49,10 +49,6 @@ module _ {T : Type 0} (P : Entry T → Type 0) where
   all_rest [] h = tt
   all_rest (x ∷ xs) h = h.1
 
-  front_is : (xs : List (Entry T)) (e : Entry T) → AllByRecursion P xs → Some e ≡ front xs → P e
-  front_is [] e h z = let y : ◌≡◌ {A = ℕ} 0 1 = cc in absurd (omega arith)
-  front_is (x ∷ xs) e h z = let y : x ≡ e = cc in subst P y h.0
-
   pub each_at : (s : State T) (q : ℕ) → Each P s → AllByRecursion P (list_of s q)
   each_at s q h = all_get (AllByRecursion P) s.lists q [] h.entries tt
 
@@ -75,10 +71,6 @@ module _ {T : Type 0} (P : Entry T → Type 0) where
   each_cancel s k (Err f) h = h
   each_cancel s k (Ok q) h = each_with s q s.next _ h (all_without P stamp_of k (list_of s q) (each_at s q h))
 
-  -- the front of a queue is so
-  pub each_front : (s : State T) (q : ℕ) (e : Entry T) → Each P s → Some e ≡ front (list_of s q) → P e
-  each_front s q e h z = front_is (list_of s q) e (each_at s q h) z
-
 no_station_fit : StationFit no_station
 no_station_fit = record { benches = omega arith; busy = omega arith; takes = omega arith; next = tt; into = tt }
 
@@ -87,12 +79,6 @@ station_fit n k h = all_get StationFit n.stations k no_station h.each_station no
 
 pub into_station : (n : Network) (k j : ℕ) → NetworkFit n → (station n k).into ≡ Some j → IsStation j
 into_station n k j h e = subst (WhenSome IsStation) e (station_fit n k h).into
-
-pub next_station : (n : Network) (k j : ℕ) → NetworkFit n → (station n k).next ≡ Some j → IsStation j
-next_station n k j h e = subst (WhenSome IsStation) e (station_fit n k h).next
-
-pub state_fit : (n : Network) (i : ℕ) (st : OrderState) → NetworkFit n → (order n i).state ≡ st → StateFit st
-state_fit n i st h e = subst StateFit e (all_get OrderFit n.orders i no_order h.each_order tt)
 
 pub fit_station : (k : ℕ) (s : Station) (n : Network) → StationFit s → NetworkFit n → NetworkFit (record { stations = set n.stations k s; orders = n.orders; declared = n.declared })
 fit_station k s n f h = record { stations = length-set n.stations k s ∙ h.stations; orders = h.orders; each_station = all_set StationFit n.stations k s h.each_station f; each_order = h.each_order }

@@ -25,10 +25,6 @@ use Rattle.simulations.specs.Writes.{simulation, with_network, noted, failed, st
 use Rattle.simulations.proofs.Fitting.{each_put, fit_marked, fit_occupied}
 use Rattle.simulations.proofs.Writing.{machine_noted, written_noted, written_kept}
 
--- a call that ends in a simulation written otherwise
-pub call_at : (f : Machine → Machine) (n : ℕ) (a : Simulation) (d d2 : Control) (m : Meaning Event) (l : Meaning LineEntry) (ps ps2 : List Record) → d2 ≡ d → ps2 ≡ ps → Call f n a (simulation d m l ps) → Call f n a (simulation d2 m l ps2)
-call_at f n a d d2 m l ps ps2 e p h = subst (λ (x : Control). Call f n a (simulation x m l ps2)) (sym e) (subst (λ (x : List Record). Call f n a (simulation d m l x)) (sym p) h)
-
 -- the finish of order i that starts at station k
 abbrev pub its_finish : ℕ → ℕ → Control → Event
 its_finish i k d = record { time = d.instant + (station d.network k).takes; kind = Finishing i k }
@@ -68,11 +64,10 @@ module _ (i k : ℕ) where
       events_put : (r : Result ℕ Refusal) → Puts event_le m 0 (its_finish i k d) r m2 → Each EventFit m2.state
       events_put r p = subst (Each EventFit) (sym p.after) (each_put EventFit event_le m.state 0 _ r (λ n. (i-is, k-is)) h.events)
 
-      pub start_accepted : (n : ℕ) (d2 : Control) (ps2 : List Record) → d.used < length ps → (station d.network k).busy < 8 → Puts event_le m 0 (its_finish i k d) (Ok n) m2
-          → d2 ≡ started i k n d → ps2 ≡ noted (Start i k) d ps → Call (start i k) 1 a (simulation d2 m2 l ps2)
-      start_accepted n d2 ps2 lt busy p e q =
+      pub start_accepted : (n : ℕ) → d.used < length ps → (station d.network k).busy < 8 → Puts event_le m 0 (its_finish i k d) (Ok n) m2 → Call (start i k) 1 a (simulation (started i k n d) m2 l (noted (Start i k) d ps))
+      start_accepted n lt busy p =
           let b : Simulation = simulation (started i k n d) m2 l (noted (Start i k) d ps) in
-          call_at (start i k) 1 a (started i k n d) d2 m2 l (noted (Start i k) d ps) ps2 e q (record {
+          record {
             fit = record { network = fit_occupied k (marked i (InService k n) d.network) busy (fit_marked i (InService k n) d.network k-is h.network); instant = h.instant; end = h.end; events = events_put (Ok n) p; lines = h.lines };
             few = le_refl _;
             outcome = outcome_event_put (machine-started i k) (finish_event i k) a b (its_finish i k d) (Ok n) (record {
@@ -85,12 +80,12 @@ module _ (i k : ℕ) where
               lines = refl;
               written = written_noted a b (record { at = d.instant; kind = Start i k }) refl refl;
             });
-          })
+          }
 
-      pub start_refused : (f : Refusal) (d1 d2 : Control) → Puts event_le m 0 (its_finish i k d) (Err f) m2 → d1 ≡ failed f Events d → d2 ≡ stranded i d1 → Call (start i k) 1 a (simulation d2 m2 l ps)
-      start_refused f d1 d2 p e1 e2 =
+      pub start_refused : (f : Refusal) → Puts event_le m 0 (its_finish i k d) (Err f) m2 → Call (start i k) 1 a (simulation (stranded i (failed f Events d)) m2 l ps)
+      start_refused f p =
           let b : Simulation = simulation (stranded i (failed f Events d)) m2 l ps in
-          call_at (start i k) 1 a (stranded i (failed f Events d)) d2 m2 l ps ps (e2 ∙ ap (stranded i) e1) refl (record {
+          record {
             fit = record { network = fit_marked i Stranded d.network tt h.network; instant = h.instant; end = h.end; events = events_put (Err f) p; lines = h.lines };
             few = omega arith;
             outcome = outcome_event_put (machine-started i k) (finish_event i k) a b (its_finish i k d) (Err f) (record {
@@ -103,17 +98,16 @@ module _ (i k : ℕ) where
               lines = refl;
               written = written_kept a b refl refl;
             });
-          })
+          }
 
     module _ (l2 : Meaning LineEntry) where
       lines_put : (r : Result ℕ Refusal) → Puts line_le l k (line_entry d.network i) r l2 → Each LineFit l2.state
       lines_put r p = subst (Each LineFit) (sym p.after) (each_put LineFit line_le l.state k _ r (λ n. i-is) h.lines)
 
-      pub wait_accepted : (n : ℕ) (d2 : Control) (ps2 : List Record) → d.used < length ps → Puts line_le l k (line_entry d.network i) (Ok n) l2
-          → d2 ≡ queued i n d → ps2 ≡ noted (Wait i k) d ps → Call (wait i k) 1 a (simulation d2 m l2 ps2)
-      wait_accepted n d2 ps2 lt p e q =
+      pub wait_accepted : (n : ℕ) → d.used < length ps → Puts line_le l k (line_entry d.network i) (Ok n) l2 → Call (wait i k) 1 a (simulation (queued i n d) m l2 (noted (Wait i k) d ps))
+      wait_accepted n lt p =
           let b : Simulation = simulation (queued i n d) m l2 (noted (Wait i k) d ps) in
-          call_at (wait i k) 1 a (queued i n d) d2 m l2 (noted (Wait i k) d ps) ps2 e q (record {
+          record {
             fit = record { network = fit_marked i (Waiting n) d.network tt h.network; instant = h.instant; end = h.end; events = h.events; lines = lines_put (Ok n) p };
             few = le_refl _;
             outcome = outcome_line_put (waited i k) k (its_entry i) a b (line_entry d.network i) (Ok n) (record {
@@ -126,16 +120,15 @@ module _ (i k : ℕ) where
               events = refl;
               written = written_noted a b (record { at = d.instant; kind = Wait i k }) refl refl;
             });
-          })
+          }
 
       turned : (f : Refusal) (x : Bool) (t : Earlier) → x ≡ at_limit f → turned_away x i k f (with_lines (machine_of t a) (store_of l2 t.takes.lines)) ≡ waited i k (Err f) (with_lines (machine_of t a) (store_of l2 t.takes.lines))
       turned f x t is = ap (λ z. turned_away z i k f (with_lines (machine_of t a) (store_of l2 t.takes.lines))) is
 
-      pub wait_turned : (f : Refusal) (d2 : Control) (ps2 : List Record) → true ≡ at_limit f → d.used < length ps → Puts line_le l k (line_entry d.network i) (Err f) l2
-          → d2 ≡ sent_away i d → ps2 ≡ noted (Away i k) d ps → Call (wait i k) 1 a (simulation d2 m l2 ps2)
-      wait_turned f d2 ps2 is lt p e q =
+      pub wait_turned : (f : Refusal) → true ≡ at_limit f → d.used < length ps → Puts line_le l k (line_entry d.network i) (Err f) l2 → Call (wait i k) 1 a (simulation (sent_away i d) m l2 (noted (Away i k) d ps))
+      wait_turned f is lt p =
           let b : Simulation = simulation (sent_away i d) m l2 (noted (Away i k) d ps) in
-          call_at (wait i k) 1 a (sent_away i d) d2 m l2 (noted (Away i k) d ps) ps2 e q (record {
+          record {
             fit = record { network = fit_marked i is-away d.network tt h.network; instant = h.instant; end = h.end; events = h.events; lines = lines_put (Err f) p };
             few = le_refl _;
             outcome = outcome_line_put (waited i k) k (its_entry i) a b (line_entry d.network i) (Err f) (record {
@@ -148,13 +141,12 @@ module _ (i k : ℕ) where
               events = refl;
               written = written_noted a b (record { at = d.instant; kind = Away i k }) refl refl;
             });
-          })
+          }
 
-      pub wait_refused : (f : Refusal) (d1 d2 : Control) → false ≡ at_limit f → Puts line_le l k (line_entry d.network i) (Err f) l2
-          → d1 ≡ failed f Orders d → d2 ≡ stranded i d1 → Call (wait i k) 1 a (simulation d2 m l2 ps)
-      wait_refused f d1 d2 is p e1 e2 =
+      pub wait_refused : (f : Refusal) → false ≡ at_limit f → Puts line_le l k (line_entry d.network i) (Err f) l2 → Call (wait i k) 1 a (simulation (stranded i (failed f Orders d)) m l2 ps)
+      wait_refused f is p =
           let b : Simulation = simulation (stranded i (failed f Orders d)) m l2 ps in
-          call_at (wait i k) 1 a (stranded i (failed f Orders d)) d2 m l2 ps ps (e2 ∙ ap (stranded i) e1) refl (record {
+          record {
             fit = record { network = fit_marked i Stranded d.network tt h.network; instant = h.instant; end = h.end; events = h.events; lines = lines_put (Err f) p };
             few = omega arith;
             outcome = outcome_line_put (waited i k) k (its_entry i) a b (line_entry d.network i) (Err f) (record {
@@ -167,4 +159,4 @@ module _ (i k : ℕ) where
               events = refl;
               written = written_kept a b refl refl;
             });
-          })
+          }

@@ -1,6 +1,5 @@
 -- A step: the front event is taken and happens, or nothing is left to do.
-use Rattle.std.proofs.Common.{◌≡◌, ℕ, ◌+◌, ◌≤◌, Bool, true, false, ltb, List, Some, None, Ok, Option, Result, sym, refl, ap, ◌∙◌, subst, arith}
-use Rattle.std.proofs.lemmas.Bool.{ltb-false}
+use Rattle.std.proofs.Common.{◌≡◌, ℕ, ◌+◌, ◌≤◌, List, Some, None, Ok, Option, Result, sym, refl, ap, ◌∙◌, subst, arith}
 use Rattle.elements.specs.declared.events.Event.{Event}
 use Rattle.elements.specs.declared.events.EventKind.{EventKind}
 use Rattle.elements.specs.declared.lines.LineEntry.{LineEntry}
@@ -15,14 +14,13 @@ use Rattle.machine.specs.declared.records.Fault.{Fault}
 use Rattle.machine.specs.declared.records.StoreName.{StoreName}
 use Rattle.machine.specs.declared.records.StoreName.TheVariants.{Events, Orders}
 use Rattle.machine.specs.Machine.{Machine, bounds_of, with_cut, with_events, with_instant, as_is}
-use Rattle.machine.specs.Step.{react, step, step_by, take_event, due_by, not_after}
+use Rattle.machine.specs.Step.{react, step, step_by, take_event, due_by}
 use Rattle.outcomes.specs.Simulation.{Control, Simulation, Earlier, Takes as Taken, and_takes, machine_of, cells}
 use Rattle.outcomes.specs.Outcomes.{Counted}
 use Rattle.outcomes.proofs.Onwards.{outcome_onward, outcome_none}
-use Rattle.simulations.specs.Conditions.{IsTick, WhenSome, KindFit, EventFit, Fit, Each}
+use Rattle.simulations.specs.Conditions.{Fit}
 use Rattle.simulations.specs.Writes.{simulation}
 use Rattle.simulations.specs.Calls.{Call, due_in}
-use Rattle.simulations.proofs.Fitting.{each_take, each_front}
 use Rattle.simulations.proofs.Writing.{written_kept}
 use Rattle.simulations.proofs.Entering.{outcome_as, took, took_one}
 
@@ -33,33 +31,22 @@ at_instant d i = record { instant = i; end = d.end; network = d.network; refusal
 abbrev pub one_event : Taken
 one_event = record { events = 1; lines = 0 }
 
--- What is due is in front, and not later than the end.
-
-module _ (t : ℕ) (e : Entry Event) (x : Event) where
-  late_by : (b : Bool) → ltb t e.element.time ≡ b → not_after b e.element ≡ Some x → (e.element ≡ x) × (e.element.time ≤ t)
-  late_by true q h = absurd (let z : ◌≡◌ {A = ℕ} 0 1 = cc in omega arith)
-  late_by false q h = let y : e.element ≡ x = cc in (y, ltb-false t e.element.time q)
-
-pub record Due (m : State Event) (end : Option ℕ) (fault : Option Fault) (x : Event) : Type 0 where
+-- what is due is in front
+pub record Due (m : State Event) : Type 0 where
   pub entry : Entry Event
-  pub is : entry.element ≡ x
   pub first : front (list_of m 0) ≡ Some entry
-  pub going : fault ≡ None
-  pub tick : WhenSome IsTick end → IsTick x.time
 
-due_parts : (m : State Event) (f : Option Fault) (t : Option ℕ) (o : Option (Entry Event)) (x : Event) → front (list_of m 0) ≡ o → due_by f t o ≡ Some x → Due m t f x
+due_parts : (m : State Event) (f : Option Fault) (t : Option ℕ) (o : Option (Entry Event)) (x : Event) → front (list_of m 0) ≡ o → due_by f t o ≡ Some x → Due m
 due_parts m (Some f) t o x q h = absurd (let z : ◌≡◌ {A = ℕ} 0 1 = cc in omega arith)
 due_parts m None None o x q h = absurd (let z : ◌≡◌ {A = ℕ} 0 1 = cc in omega arith)
 due_parts m None (Some t) None x q h = absurd (let z : ◌≡◌ {A = ℕ} 0 1 = cc in omega arith)
-due_parts m None (Some t) (Some e) x q h =
-    let p = late_by t e x (ltb t e.element.time) refl h in
-    record { entry = e; is = p.0; first = q; going = refl; tick = λ k. subst (λ (y : Event). y.time ≤ 1000000000) p.0 (omega (arith, k, p.1)) }
+due_parts m None (Some t) (Some e) x q h = record { entry = e; first = q }
 
 module _ (d : Control) (m : Meaning Event) (l : Meaning LineEntry) (ps : List Record) (h : Fit (simulation d m l ps)) (none : d.refusal ≡ None) where
   abbrev a : Simulation
   a = simulation d m l ps
 
-  pub due_is : (x : Event) → due_in a ≡ Some x → Due m.state d.end d.fault x
+  pub due_is : (x : Event) → due_in a ≡ Some x → Due m.state
   due_is x e = due_parts m.state d.fault d.end (front (list_of m.state 0)) x refl e
 
   -- what a take answers then
@@ -79,15 +66,6 @@ module _ (d : Control) (m : Meaning Event) (l : Meaning LineEntry) (ps : List Re
 
     is_first : Some y ≡ front (list_of m.state 0)
     is_first = took event_le m m2 0 (omega arith) (Some y) p
-
-    same_entry : y ≡ (due_is x e).entry
-    same_entry = let z : ◌≡◌ {A = Option (Entry Event)} (Some y) (Some (due_is x e).entry) = is_first ∙ (due_is x e).first in cc
-
-    pub due_fit : KindFit x.kind
-    due_fit = subst (λ (z : Event). KindFit z.kind) (ap (λ (z : Entry Event). z.element) same_entry ∙ (due_is x e).is) (each_front EventFit m.state 0 y h.events is_first)
-
-    pub taken_fit : Fit b
-    taken_fit = record { network = h.network; instant = (due_is x e).tick h.end; end = h.end; events = subst (Each EventFit) (sym p.after) (each_take EventFit m.state 0 (Some y) h.events); lines = h.lines }
 
     taken_cells : (s : StoreName) → cells b s ≡ cells a s
     taken_cells Events = ap (λ f. f.cells) p.fixed

@@ -1,1 +1,3 @@
 mod Pulling
+mod Fronts
+mod Faults

@@ -10,10 +10,11 @@ use Rattle.machine.specs.declared.records.RecordKind.TheVariants.{Missed as is-m
 use Rattle.machine.specs.Network.{no_order, order, marked}
 use Rattle.machine.specs.Machine.{Machine, tell}
 use Rattle.machine.specs.Step.{withdraw_by}
-use Rattle.outcomes.specs.Simulation.{Control}
 use Rattle.simulations.specs.Writes.{with_network}
 use Rattle.workshop.specs.declared.withdrawals.Withdrawal.{Withdrawal}
 use Rattle.workshop.specs.declared.withdrawals.Withdrawal.TheVariants.{FromLine, FromBench, Missed}
+use Rattle.workshop.specs.declared.Workshop.{Workshop}
+use Rattle.workshop.specs.Workshop.{control, left}
 use Rattle.workshop.specs.Withdrawals.{withdrawal, state_after}
 
 never : {A : Type 0} → ◌≡◌ {A = ℕ} 0 1 → A
@@ -56,28 +57,28 @@ module _ (i : ℕ) where
 pub unmarked : (i : ℕ) (st : OrderState) (n : Network) → st ≡ (order n i).state → marked i st n ≡ n
 unmarked i st n e = ap (λ x. marked i x n) e ∙ ap (λ (os : _). record { stations = n.stations; orders = os; declared = n.declared }) (set-get_or n.orders i no_order)
 
--- From the values that a call of pull_out leaves: r is its answer, d and d1 the control before and after.
-module _ (i : ℕ) (kind : EventKind) (d d1 : Control) (r : Withdrawal) (k-is : kind ≡ Withdraw i) (answer : r ≡ withdrawal (order d.network i).state kind) (after : d1 ≡ with_network d (marked i (state_after (order d.network i).state kind) d.network)) where
-  found : (x : Withdrawal) → r ≡ x → withdrawal (order d.network i).state (Withdraw i) ≡ x
-  found x e = sym (answer ∙ ap (withdrawal (order d.network i).state) k-is) ∙ e
+-- From the values that a call of pull_out leaves: r is its answer, w and v the workshop before and after.
+module _ {E O : Type 0} (i : ℕ) (kind : EventKind) (w v : Workshop E O) (r : Withdrawal) (k-is : kind ≡ Withdraw i) (answer : r ≡ withdrawal (order w.net.now i).state kind) (after : v ≡ left w (with_network (control w) (marked i (state_after (order w.net.now i).state kind) w.net.now)) w.places.now) where
+  found : (x : Withdrawal) → r ≡ x → withdrawal (order w.net.now i).state (Withdraw i) ≡ x
+  found x e = sym (answer ∙ ap (withdrawal (order w.net.now i).state) k-is) ∙ e
 
-  left : (st : OrderState) → (order d.network i).state ≡ st → d1 ≡ with_network d (marked i (state_after st (Withdraw i)) d.network)
-  left st e = after ∙ ap (λ k. with_network d (marked i (state_after (order d.network i).state k) d.network)) k-is ∙ ap (λ s. with_network d (marked i (state_after s (Withdraw i)) d.network)) e
+  pulled : (st : OrderState) → (order w.net.now i).state ≡ st → v ≡ left w (with_network (control w) (marked i (state_after st (Withdraw i)) w.net.now)) w.places.now
+  pulled st e = after ∙ ap (λ k. left w (with_network (control w) (marked i (state_after (order w.net.now i).state k) w.net.now)) w.places.now) k-is ∙ ap (λ s. left w (with_network (control w) (marked i (state_after s (Withdraw i)) w.net.now)) w.places.now) e
 
-  pub waited : (s : ℕ) → r ≡ FromLine s → (order d.network i).state ≡ Waiting s
+  pub waited : (s : ℕ) → r ≡ FromLine s → (order w.net.now i).state ≡ Waiting s
   waited s e = from_line i _ s (found (FromLine s) e)
 
-  pub served : (k s : ℕ) → r ≡ FromBench k s → (order d.network i).state ≡ InService k s
+  pub served : (k s : ℕ) → r ≡ FromBench k s → (order w.net.now i).state ≡ InService k s
   served k s e = from_bench i _ k s (found (FromBench k s) e)
 
-  pub was_missed : r ≡ Missed → IsMissed i (order d.network i).state
+  pub was_missed : r ≡ Missed → IsMissed i (order w.net.now i).state
   was_missed e = missed i _ (found Missed e)
 
-  pub waited_left : (s : ℕ) → r ≡ FromLine s → d1 ≡ with_network d (marked i Withdrawn d.network)
-  waited_left s e = left (Waiting s) (waited s e)
+  pub waited_left : (s : ℕ) → r ≡ FromLine s → v ≡ left w (with_network (control w) (marked i Withdrawn w.net.now)) w.places.now
+  waited_left s e = pulled (Waiting s) (waited s e)
 
-  pub served_left : (k s : ℕ) → r ≡ FromBench k s → d1 ≡ with_network d (marked i Withdrawn d.network)
-  served_left k s e = left (InService k s) (served k s e)
+  pub served_left : (k s : ℕ) → r ≡ FromBench k s → v ≡ left w (with_network (control w) (marked i Withdrawn w.net.now)) w.places.now
+  served_left k s e = pulled (InService k s) (served k s e)
 
-  pub missed_left : r ≡ Missed → d1 ≡ d
-  missed_left e = left (order d.network i).state refl ∙ ap (with_network d) (unmarked i _ d.network (was_missed e).same)
+  pub missed_left : r ≡ Missed → v ≡ w
+  missed_left e = pulled (order w.net.now i).state refl ∙ ap (λ n. left w (with_network (control w) n) w.places.now) (unmarked i _ w.net.now (was_missed e).same)

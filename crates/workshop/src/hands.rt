@@ -1,20 +1,22 @@
 // An order in hand, and the five ways to spend it.
-ghost use Rattle.std.specs.Prelude.{◌≡◌, ◌<◌, true, length};
+ghost use Rattle.std.specs.Prelude.{◌≡◌, ◌<◌, true, false, length};
 ghost use Rattle.machine.specs.declared.records.RecordKind.TheVariants.{Start, Wait, Away, Done};
-ghost use Rattle.machine.specs.Network.{station};
+ghost use Rattle.machine.specs.Network.{station, marked};
 ghost use Rattle.simulations.specs.Conditions.{IsOrder, IsStation};
-ghost use Rattle.simulations.specs.Writes.{one_more, noted, failed, started, queued, sent_away, completed, stranded};
-ghost use Rattle.workshop.specs.Workshop.{control};
+ghost use Rattle.simulations.specs.Writes.{with_network, one_more, noted, failed, started, queued, sent_away, completed, stranded};
+ghost use Rattle.workshop.specs.Workshop.{control, left};
 
 use crate::Workshop;
+use elements::{Event, LineEntry};
 use machine::{Fault, OrderState, Record, RecordKind, StoreName};
-use stores::Refusal;
+use stores::{Agenda, Refusal};
 
 // An order that arrived, finished or was taken from a line. It may be let go only once it is spent: started, put in a line,
-// away, done or stranded.
+// away, done or stranded. The flag is there, and no plain linear value in its stead, so that the prover, and not the
+// compiler, refuses code that lets an order fall: the must-fail edit `hand_falls` shows that.
 pub(crate) struct InHand {
     pub(crate) order: u16,
-    pub(crate) spent: bool,
+    spent: bool,
 }
 
 impl Drop for InHand {
@@ -26,6 +28,15 @@ impl Drop for InHand {
 }
 
 impl InHand {
+    pub(crate) fn new(order: u16) -> InHand
+        ensures { result ≡ record { order = order; spent = false } }
+    {
+        InHand {
+            order,
+            spent: false,
+        }
+    }
+
     fn spend(mut self) -> u16
         ensures { result ≡ self.order }
     {
@@ -34,82 +45,83 @@ impl InHand {
     }
 }
 
-impl<'a> Workshop<'a> {
+impl<E: Agenda<Item = Event>, O: Agenda<Item = LineEntry>> Workshop<'_, E, O> {
     // A record of this instant, in the first place that is not used.
-    pub(crate) fn note(&mut self, kind: RecordKind, places: &mut [Record])
-        requires place { self.old.used < length places.old }
-        ensures control { control self.new ≡ one_more (control self.old) }
-        ensures places { places.new ≡ noted kind (control self.old) places.old }
+    pub(crate) fn note(&mut self, kind: RecordKind)
+        requires place { self.old.used < length self.old.places.now }
+        ensures { self.new ≡ left self.old (one_more (control self.old)) (noted kind (control self.old) self.old.places.now) }
     {
-        places[self.used] = Record {
-            at: self.instant,
+        self.places[self.used] = Record {
+            at: self.run.instant,
             kind,
         };
         self.used += 1;
     }
 
-    // The order in hand is in service at station k.
-    pub(crate) fn begin(&mut self, hand: InHand, k: u8, stamp: u16, places: &mut [Record])
-        requires range { (IsOrder hand.order) × ((IsStation k) × ((self.old.used < length places.old) × ((station self.old.net.now k).busy < 8))) }
-        ensures control { control self.new ≡ started hand.order k stamp (control self.old) }
-        ensures places { places.new ≡ noted (Start hand.order k) (control self.old) places.old }
+    // The order in hand is put down in that state; the answer is its number.
+    fn put_down(&mut self, hand: InHand, state: OrderState) -> u16
+        requires order { IsOrder hand.order }
+        ensures answer { result ≡ hand.order }
+        ensures left { self.new ≡ left self.old (with_network (control self.old) (marked hand.order state self.old.net.now)) self.old.places.now }
     {
         let order = hand.spend();
-        self.net.orders[order as usize].state = OrderState::InService { station: k, stamp };
+        self.net.orders[order as usize].state = state;
+        order
+    }
+
+    // The order in hand is in service at station k.
+    pub(crate) fn begin(&mut self, hand: InHand, k: u8, stamp: u16)
+        requires range { (IsOrder hand.order) × (IsStation k) × (self.old.used < length self.old.places.now) × ((station self.old.net.now k).busy < 8) }
+        ensures { self.new ≡ left self.old (started hand.order k stamp (control self.old)) (noted (Start hand.order k) (control self.old) self.old.places.now) }
+    {
+        let order = self.put_down(hand, OrderState::InService { station: k, stamp });
         self.net.stations[k as usize].busy += 1;
-        self.note(RecordKind::Start { order, station: k }, places);
+        self.note(RecordKind::Start { order, station: k });
     }
 
     // The order in hand waits in line k.
-    pub(crate) fn line_up(&mut self, hand: InHand, k: u8, stamp: u16, places: &mut [Record])
-        requires range { (IsOrder hand.order) × (self.old.used < length places.old) }
-        ensures control { control self.new ≡ queued hand.order stamp (control self.old) }
-        ensures places { places.new ≡ noted (Wait hand.order k) (control self.old) places.old }
+    pub(crate) fn line_up(&mut self, hand: InHand, k: u8, stamp: u16)
+        requires range { (IsOrder hand.order) × (self.old.used < length self.old.places.now) }
+        ensures { self.new ≡ left self.old (queued hand.order stamp (control self.old)) (noted (Wait hand.order k) (control self.old) self.old.places.now) }
     {
-        let order = hand.spend();
-        self.net.orders[order as usize].state = OrderState::Waiting { stamp };
-        self.note(RecordKind::Wait { order, station: k }, places);
+        let order = self.put_down(hand, OrderState::Waiting { stamp });
+        self.note(RecordKind::Wait { order, station: k });
     }
 
     // The order in hand goes away from line k.
-    pub(crate) fn send_away(&mut self, hand: InHand, k: u8, places: &mut [Record])
-        requires range { (IsOrder hand.order) × (self.old.used < length places.old) }
-        ensures control { control self.new ≡ sent_away hand.order (control self.old) }
-        ensures places { places.new ≡ noted (Away hand.order k) (control self.old) places.old }
+    pub(crate) fn send_away(&mut self, hand: InHand, k: u8)
+        requires range { (IsOrder hand.order) × (self.old.used < length self.old.places.now) }
+        ensures { self.new ≡ left self.old (sent_away hand.order (control self.old)) (noted (Away hand.order k) (control self.old) self.old.places.now) }
     {
-        let order = hand.spend();
-        self.net.orders[order as usize].state = OrderState::Away;
-        self.note(RecordKind::Away { order, station: k }, places);
+        let order = self.put_down(hand, OrderState::Away);
+        self.note(RecordKind::Away { order, station: k });
     }
 
     // The order in hand is done.
-    pub(crate) fn complete(&mut self, hand: InHand, places: &mut [Record])
-        requires range { (IsOrder hand.order) × (self.old.used < length places.old) }
-        ensures control { control self.new ≡ completed hand.order (control self.old) }
-        ensures places { places.new ≡ noted (Done hand.order) (control self.old) places.old }
+    pub(crate) fn complete(&mut self, hand: InHand)
+        requires range { (IsOrder hand.order) × (self.old.used < length self.old.places.now) }
+        ensures { self.new ≡ left self.old (completed hand.order (control self.old)) (noted (Done hand.order) (control self.old) self.old.places.now) }
     {
-        let order = hand.spend();
-        self.net.orders[order as usize].state = OrderState::Done;
-        self.note(RecordKind::Done { order }, places);
+        let order = self.put_down(hand, OrderState::Done);
+        self.note(RecordKind::Done { order });
     }
 
     // The order in hand is stranded.
     pub(crate) fn strand(&mut self, hand: InHand)
         requires range { IsOrder hand.order }
-        ensures control { control self.new ≡ stranded hand.order (control self.old) }
+        ensures { self.new ≡ left self.old (stranded hand.order (control self.old)) self.old.places.now }
     {
-        let order = hand.spend();
-        self.net.orders[order as usize].state = OrderState::Stranded;
+        self.put_down(hand, OrderState::Stranded);
     }
 
     // A refused put ends the run.
     pub(crate) fn fail(&mut self, refusal: Refusal, store: StoreName)
-        ensures control { control self.new ≡ failed refusal store (control self.old) }
+        ensures { self.new ≡ left self.old (failed refusal store (control self.old)) self.old.places.now }
     {
-        self.fault = Some(Fault {
+        self.run.fault = Some(Fault {
             refusal,
             store,
-            instant: self.instant,
+            instant: self.run.instant,
         });
     }
 }

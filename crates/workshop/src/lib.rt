@@ -1,5 +1,4 @@
-// The workshop: what happens at the stations of a network while a run goes on. Two stores, any two agendas, are lent to
-// each call: one with the events, in queue 0, and one with the orders that wait, where line k is queue k.
+// The workshop: what happens at the stations of a network in a step of its run, over two stores, any two agendas.
 #![tactic(auto)]
 
 mod closings;
@@ -10,16 +9,30 @@ mod steps;
 mod withdrawals;
 
 use hands::InHand;
-use machine::{Fault, Network};
+use machine::{Fault, Network, Record};
 pub use steps::Step;
 
-pub struct Workshop<'a> {
-    pub net: &'a mut Network,
+// How far a run is.
+#[derive(Clone, Copy, PartialEq, Eq, Debug)]
+pub struct Run {
     // in ticks
     pub instant: u32,
     pub end: u32,
     // why the run ended before its end
     pub fault: Option<Fault>,
-    // how many of the places that were lent for records are written
-    pub used: usize,
+}
+
+// All that a step works on, which is lent to it.
+#[derive(Drop)]
+struct Workshop<'a, E, O> {
+    net: &'a mut Network,
+    run: &'a mut Run,
+    // the events, in queue 0
+    events: &'a mut E,
+    // the orders that wait; line k is queue k
+    orders: &'a mut O,
+    // for the records of the step
+    places: &'a mut [Record],
+    // how many of the places are written
+    used: usize,
 }

@@ -1,31 +1,33 @@
-use Rattle.std.proofs.Common.{Some, None, refl, arith}
-use Rattle.machine.specs.declared.forms.Form.TheVariants.{Order}
+use Rattle.std.proofs.Common.{refl, rules}
+use Rattle.machine.specs.declared.forms.Form.TheVariants.{Order as an-order}
 use Rattle.elements.specs.declared.events.EventKind.TheVariants.{Arrive}
 use Rattle.machine.specs.Network.{with_new_order}
 use Rattle.machine.specs.Forms.{ordered, new_order}
-use Rattle.simulations.proofs.Forming.{form_refused_at_once, form_accepted, form_put_refused, orders_one, new_order_fit}
-use Rattle.network.proofs.Ranges.{checked_as, accepted_as, ranged, order_numbers}
+use Rattle.simulations.proofs.Forming.{orders_one, new_order_fit}
+use Rattle.network.proofs.Formed.{fails_by, store_takes, store_refuses_by}
 use Rattle.network.proofs.Draft.order.Goals as goal
 
-pub returns-in-Some : goal.returns-in-Some
-returns-in-Some g c = record { sound = c.requires.sound; forms = form_refused_at_once c.args.self.now.net.now (g.E.Store.meaning c.args.events.now) (g.O.Store.meaning c.args.orders.now) c.requires.fit (Order c.args.order c.args.at c.args.urgency c.args.due c.args.start) _ (checked_as (Order c.args.order c.args.at c.args.urgency c.args.due c.args.start) c.args.self.now.net.now (g.E.Store.meaning c.args.events.now) (g.O.Store.meaning c.args.orders.now) _ _ (Some c.in-Some.why) c.issued.ensures.answer c.refusal.ensures.answer c.in-Some.is); refused = (refl, refl, refl) }
+pub returns-in_err-check-clause-forms : goal.returns-in_err-check-clause-forms
+returns-in_err-check-clause-forms g c =
+    let a = c.args in
+    fails_by (an-order a.order a.at a.urgency a.due a.start) a.self.now.net.now (g.E.Store.meaning a.events.now) (g.O.Store.meaning a.orders.now) c.requires.fit _ _ c.issued.ensures.answer c.check.ensures _ c.in_err-check.was _ c.from_residual.ensures.1
 
-pub returns-in-Ok : goal.returns-in-Ok
-returns-in-Ok g c =
-    let p = c.in-Ok.ensures in
-    let numbers = order_numbers c.args.order c.args.at c.args.urgency c.args.due c.args.start (ranged (Order c.args.order c.args.at c.args.urgency c.args.due c.args.start) c.args.self.now.net.now c.issued.result (accepted_as (Order c.args.order c.args.at c.args.urgency c.args.due c.args.start) c.args.self.now.net.now c.issued.result c.refusal.result c.refusal.ensures.answer c.in-None.is)) in
-    record {
-      sound = (p.sound, c.requires.sound.1);
-      forms = form_accepted (ordered c.args.order (new_order c.args.urgency c.args.due c.args.start)) (λ n. with_new_order n c.args.order (new_order c.args.urgency c.args.due c.args.start)) (orders_one c.args.order (new_order c.args.urgency c.args.due c.args.start)) c.args.self.now.net.now (g.E.Store.meaning c.args.events.now) (g.O.Store.meaning c.args.orders.now) c.requires.fit (Order c.args.order c.args.at c.args.urgency c.args.due c.args.start) (checked_as (Order c.args.order c.args.at c.args.urgency c.args.due c.args.start) c.args.self.now.net.now (g.E.Store.meaning c.args.events.now) (g.O.Store.meaning c.args.orders.now) _ _ None c.issued.ensures.answer c.refusal.ensures.answer c.in-None.is) c.args.at (Arrive c.args.order c.args.start) (λ v. refl) (omega (arith, numbers.number), omega (arith, numbers.start)) _ _ p.effect (new_order_fit _ _ _ _ c.args.self.now.net.now c.requires.fit.network) _ c.add_order.ensures;
-      refused = tt;
-    }
+pub returns-in_err-announce-clause-forms : goal.returns-in_err-announce-clause-forms
+returns-in_err-announce-clause-forms g c =
+    let a = c.args in
+    let f = an-order a.order a.at a.urgency a.due a.start in
+    let n = a.self.now.net.now in
+    let m = g.E.Store.meaning a.events.now in
+    let l = g.O.Store.meaning a.orders.now in
+    let o = new_order a.urgency a.due a.start in
+    store_refuses_by f n m l c.requires.fit _ _ c.issued.ensures.answer c.check.ensures _ c.in_ok-check.was (ordered a.order o) (λ y. with_new_order y a.order o) (orders_one a.order o) a.at (Arrive a.order a.start) (λ v. refl) (search rules) _ _ c.in_err-announce.ensures.put _ c.from_residual-in_err-announce.ensures.1
 
-pub returns-in-Err : goal.returns-in-Err
-returns-in-Err g c =
-    let p = c.in-Err.ensures in
-    let numbers = order_numbers c.args.order c.args.at c.args.urgency c.args.due c.args.start (ranged (Order c.args.order c.args.at c.args.urgency c.args.due c.args.start) c.args.self.now.net.now c.issued.result (accepted_as (Order c.args.order c.args.at c.args.urgency c.args.due c.args.start) c.args.self.now.net.now c.issued.result c.refusal.result c.refusal.ensures.answer c.in-None.is)) in
-    record {
-      sound = (p.sound, c.requires.sound.1);
-      forms = form_put_refused (ordered c.args.order (new_order c.args.urgency c.args.due c.args.start)) (λ n. with_new_order n c.args.order (new_order c.args.urgency c.args.due c.args.start)) (orders_one c.args.order (new_order c.args.urgency c.args.due c.args.start)) c.args.self.now.net.now (g.E.Store.meaning c.args.events.now) (g.O.Store.meaning c.args.orders.now) c.requires.fit (Order c.args.order c.args.at c.args.urgency c.args.due c.args.start) (checked_as (Order c.args.order c.args.at c.args.urgency c.args.due c.args.start) c.args.self.now.net.now (g.E.Store.meaning c.args.events.now) (g.O.Store.meaning c.args.orders.now) _ _ None c.issued.ensures.answer c.refusal.ensures.answer c.in-None.is) c.args.at (Arrive c.args.order c.args.start) (λ v. refl) (omega (arith, numbers.number), omega (arith, numbers.start)) _ _ p.effect;
-      refused = (refl, p.refused, refl);
-    }
+pub returns-clause-forms : goal.returns-clause-forms
+returns-clause-forms g c =
+    let a = c.args in
+    let f = an-order a.order a.at a.urgency a.due a.start in
+    let n = a.self.now.net.now in
+    let m = g.E.Store.meaning a.events.now in
+    let l = g.O.Store.meaning a.orders.now in
+    let o = new_order a.urgency a.due a.start in
+    store_takes f n m l c.requires.fit _ _ c.issued.ensures.answer c.check.ensures _ c.in_ok-check.was (ordered a.order o) (λ y. with_new_order y a.order o) (orders_one a.order o) a.at (Arrive a.order a.start) (λ v. refl) (search rules) _ c.in_ok-announce.ensures.put (new_order_fit _ _ _ _ n c.requires.fit.network) _ c.add_order.ensures

@@ -1,30 +1,19 @@
-use Rattle.std.proofs.Common.{Some, None, refl, arith}
+use Rattle.std.proofs.Common.{refl, rules}
 use Rattle.machine.specs.declared.forms.Form.TheVariants.{Withdraw as a-withdrawal}
 use Rattle.elements.specs.declared.events.EventKind.TheVariants.{Withdraw}
-use Rattle.machine.specs.Forms.{announced}
-use Rattle.simulations.proofs.Forming.{form_refused_at_once, form_accepted, form_put_refused, no_write, announced_only}
-use Rattle.network.proofs.Ranges.{checked_as, accepted_as, ranged, withdraw_number}
+use Rattle.network.proofs.Formed.{fails_by, announces}
 use Rattle.network.proofs.Draft.withdraw.Goals as goal
 
-pub returns-in-Some : goal.returns-in-Some
-returns-in-Some g c = record { sound = c.requires.sound; forms = form_refused_at_once c.args.self.now.net.now (g.E.Store.meaning c.args.events.now) (g.O.Store.meaning c.args.orders.now) c.requires.fit (a-withdrawal c.args.order c.args.at) _ (checked_as (a-withdrawal c.args.order c.args.at) c.args.self.now.net.now (g.E.Store.meaning c.args.events.now) (g.O.Store.meaning c.args.orders.now) _ _ (Some c.in-Some.why) c.issued.ensures.answer c.refusal.ensures.answer c.in-Some.is); refused = (refl, refl, refl) }
+pub returns-in_err-check-clause-forms : goal.returns-in_err-check-clause-forms
+returns-in_err-check-clause-forms g c =
+    let a = c.args in
+    fails_by (a-withdrawal a.order a.at) a.self.now.net.now (g.E.Store.meaning a.events.now) (g.O.Store.meaning a.orders.now) c.requires.fit _ _ c.issued.ensures.answer c.check.ensures _ c.in_err-check.was _ c.from_residual.ensures.1
 
-pub returns-in-Ok : goal.returns-in-Ok
-returns-in-Ok g c =
-    let p = c.in-Ok.ensures in
-    let numbers = withdraw_number c.args.order c.args.at (ranged (a-withdrawal c.args.order c.args.at) c.args.self.now.net.now c.issued.result (accepted_as (a-withdrawal c.args.order c.args.at) c.args.self.now.net.now c.issued.result c.refusal.result c.refusal.ensures.answer c.in-None.is)) in
-    record {
-      sound = (p.sound, c.requires.sound.1);
-      forms = form_accepted announced no_write announced_only c.args.self.now.net.now (g.E.Store.meaning c.args.events.now) (g.O.Store.meaning c.args.orders.now) c.requires.fit (a-withdrawal c.args.order c.args.at) (checked_as (a-withdrawal c.args.order c.args.at) c.args.self.now.net.now (g.E.Store.meaning c.args.events.now) (g.O.Store.meaning c.args.orders.now) _ _ None c.issued.ensures.answer c.refusal.ensures.answer c.in-None.is) c.args.at (Withdraw c.args.order) (λ v. refl) (omega (arith, numbers)) _ _ p.effect c.requires.fit.network _ refl;
-      refused = tt;
-    }
-
-pub returns-in-Err : goal.returns-in-Err
-returns-in-Err g c =
-    let p = c.in-Err.ensures in
-    let numbers = withdraw_number c.args.order c.args.at (ranged (a-withdrawal c.args.order c.args.at) c.args.self.now.net.now c.issued.result (accepted_as (a-withdrawal c.args.order c.args.at) c.args.self.now.net.now c.issued.result c.refusal.result c.refusal.ensures.answer c.in-None.is)) in
-    record {
-      sound = (p.sound, c.requires.sound.1);
-      forms = form_put_refused announced no_write announced_only c.args.self.now.net.now (g.E.Store.meaning c.args.events.now) (g.O.Store.meaning c.args.orders.now) c.requires.fit (a-withdrawal c.args.order c.args.at) (checked_as (a-withdrawal c.args.order c.args.at) c.args.self.now.net.now (g.E.Store.meaning c.args.events.now) (g.O.Store.meaning c.args.orders.now) _ _ None c.issued.ensures.answer c.refusal.ensures.answer c.in-None.is) c.args.at (Withdraw c.args.order) (λ v. refl) (omega (arith, numbers)) _ _ p.effect;
-      refused = (refl, p.refused, refl);
-    }
+pub returns-clause-forms : goal.returns-clause-forms
+returns-clause-forms g c =
+    let a = c.args in
+    let f = a-withdrawal a.order a.at in
+    let n = a.self.now.net.now in
+    let m = g.E.Store.meaning a.events.now in
+    let l = g.O.Store.meaning a.orders.now in
+    announces f n m l c.requires.fit _ _ c.issued.ensures.answer c.check.ensures _ c.in_ok-check.was a.at (Withdraw a.order) (λ v. refl) (search rules) _ _ c.announce.ensures.put

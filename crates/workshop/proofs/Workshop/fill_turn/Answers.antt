@@ -1,24 +1,13 @@
-use Rattle.std.proofs.Common.{refl, arith}
-use Rattle.simulations.proofs.Fitting.{station_fit}
+use Rattle.std.proofs.Common.{refl}
 use Rattle.simulations.proofs.Closing.{fill_starts, fill_rests, fill_on, fill_over}
+use Rattle.workshop.proofs.Faults.{no_fault, a_fault}
 use Rattle.workshop.proofs.Workshop.fill_turn.Goals as goal
 
-pub start_front-requires : goal.start_front-requires
-start_front-requires g c = record {
-  declared = c.requires.declared;
-  place = c.requires.place;
-  bench = omega (arith, c.if-station.true, (station_fit c.args.self.now.net.now c.args.j c.requires.fit.network).benches);
-  sound = c.requires.sound;
-  fit = c.requires.fit;
-}
+pub returns-then-station-clause-turn : goal.returns-then-station-clause-turn
+returns-then-station-clause-turn g c = λ n a p. fill_on n c.args.j a _ p refl _ (no_fault _ (c.if-is_none.ensures)) (fill_starts c.args.j _ _ c.if-station.true c.start_front.ensures.call)
 
-pub returns-in-Some : goal.returns-in-Some
-returns-in-Some g c = record { sound = c.requires.sound; turn = λ n a p. fill_over n c.args.j a _ p refl _ c.in-Some.is }
+pub returns-else-station-clause-turn : goal.returns-else-station-clause-turn
+returns-else-station-clause-turn g c = λ n a p. fill_on n c.args.j a _ p refl _ (no_fault _ (c.if-is_none.ensures)) (fill_rests c.args.j _ c.if-station.false c.requires.ready.fit)
 
-pub returns-then-station : goal.returns-then-station
-returns-then-station g c =
-    let s = c.start_front.ensures in
-    record { sound = s.sound; turn = λ n a p. fill_on n c.args.j a _ p refl _ c.in-None.is (fill_starts c.args.j _ _ c.if-station.true s.call) }
-
-pub returns-else-station : goal.returns-else-station
-returns-else-station g c = record { sound = c.requires.sound; turn = λ n a p. fill_on n c.args.j a _ p refl _ c.in-None.is (fill_rests c.args.j _ c.if-station.false c.requires.fit) }
+pub returns-else-is_none-clause-turn : goal.returns-else-is_none-clause-turn
+returns-else-is_none-clause-turn g c = λ n a p. let f = a_fault c.args.self.now.run.now.fault (c.if-is_none.ensures) in fill_over n c.args.j a _ p refl f.0 f.1

@@ -1,17 +1,12 @@
-use Rattle.std.proofs.Common.{arith}
-use Rattle.simulations.proofs.Fitting.{station_fit}
 use Rattle.simulations.proofs.Spending.{start_accepted, start_refused}
 use Rattle.workshop.proofs.Workshop.start.Goals as goal
 
-pub overflow_add-event : goal.overflow_add-event
-overflow_add-event g c = omega (arith, c.requires.fit.instant, (station_fit c.args.self.now.net.now c.args.k c.requires.fit.network).takes)
+pub returns-in-Ok-clause-call : goal.returns-in-Ok-clause-call
+returns-in-Ok-clause-call g c =
+    let r = c.requires in
+    rw c.begin.ensures (start_accepted _ _ _ _ _ _ r.order r.declared r.ready.fit _ _ r.place r.bench c.in-Ok.ensures.effect)
 
-pub returns-in-Ok : goal.returns-in-Ok
-returns-in-Ok g c =
-    let p = c.in-Ok.ensures in
-    record { sound = (p.sound, c.requires.sound.1); call = start_accepted _ _ _ _ _ _ c.requires.order c.requires.declared c.requires.fit _ _ _ _ c.requires.place c.requires.bench p.effect c.begin.ensures.control c.begin.ensures.places }
-
-pub returns-in-Err : goal.returns-in-Err
-returns-in-Err g c =
-    let p = c.in-Err.ensures in
-    record { sound = (p.sound, c.requires.sound.1); call = start_refused _ _ _ _ _ _ c.requires.order c.requires.declared c.requires.fit _ _ _ _ p.effect c.fail.ensures.control c.strand.ensures.control }
+pub returns-in-Err-clause-call : goal.returns-in-Err-clause-call
+returns-in-Err-clause-call g c =
+    let r = c.requires in
+    rw (c.strand.ensures, c.fail.ensures) (start_refused _ _ _ _ _ _ r.order r.declared r.ready.fit _ _ c.in-Err.ensures.effect)

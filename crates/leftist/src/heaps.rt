@@ -1,4 +1,5 @@
 // The heaps of a store: the front entry is at the root, and the two subtrees of a root that leaves are melded.
+ghost use Rattle.elements.proofs.Strictness.{strict};
 ghost use Rattle.leftist.specs.Leftist.{leftist};
 ghost use Rattle.leftist.specs.Lawful.{lawful};
 
@@ -44,5 +45,5 @@ impl<T: Ordered + Copy> HeapLink<T> for Link {
         (root, trees::meld(links, entries, left, right))
     }
 
-    ghost lawful = { lawful T.Ordered.le };
+    ghost lawful = { lawful T.Ordered.le (strict T.Ordered.le T.Ordered.laws) };
 }

@@ -43,7 +43,11 @@ impl<T: Ordered + Copy> HeapLink<T> for Link {
     ghost form = { binomial };
 
     fn single() -> Link {
-        Link::single()
+        Link {
+            child: None,
+            next: None,
+            degree: 0,
+        }
     }
 
     fn idle(next: Option<u16>) -> Link {

@@ -16,7 +16,11 @@ impl<T: Ordered + Copy> HeapLink<T> for Link {
     ghost form = { leftist };
 
     fn single() -> Link {
-        Link::single()
+        Link {
+            left: None,
+            right: None,
+            rank: 1,
+        }
     }
 
     fn idle(next: Option<u16>) -> Link {

@@ -40,7 +40,10 @@ impl<T: Ordered + Copy> HeapLink<T> for Link {
     ghost form = { pairing };
 
     fn single() -> Link {
-        Link::single()
+        Link {
+            child: None,
+            next: None,
+        }
     }
 
     fn idle(next: Option<u16>) -> Link {

@@ -1,5 +1,6 @@
 // The heaps of a store: the front entry is at the least root, and the children of a root that leaves are melded with the
 // other trees.
+ghost use Rattle.elements.proofs.Strictness.{strict};
 ghost use Rattle.binomial.specs.Binomial.{HasRoom, binomial, cells_of};
 ghost use Rattle.binomial.specs.Lawful.{laid, lawful};
 
@@ -42,7 +43,11 @@ impl<T: Ordered + Copy> HeapLink<T> for Link {
     ghost form = { binomial };
 
     fn single() -> Link {
-        Link::single()
+        Link {
+            child: None,
+            next: None,
+            degree: 0,
+        }
     }
 
     fn idle(next: Option<u16>) -> Link {
@@ -75,5 +80,5 @@ impl<T: Ordered + Copy> HeapLink<T> for Link {
         (front, trees::meld(links, entries, others, turned))
     }
 
-    ghost lawful = { lawful T.Ordered.le };
+    ghost lawful = { lawful T.Ordered.le (strict T.Ordered.le T.Ordered.laws) };
 }

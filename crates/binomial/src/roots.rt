@@ -16,17 +16,14 @@ pub fn least<T: Ordered + Copy>(links: &[Link], entries: &[Entry<T>], at: u16) -
     requires { (t : Tree (Entry T)) × ForestAt (cells_of T.Ordered.le) Any links.now entries.now (Some at) t }
     ensures { (t : Tree (Entry T)) → ForestAt (cells_of T.Ordered.le) Any links.now entries.now (Some at) t → (x : Entry T) × Least (precedes_by T.Ordered.le) result x t }
 {
-    let next = links[at as usize].next;
-    match next {
-        None => at,
-        Some(j) => {
-            let other = least(links, entries, j);
-            if precedes(&entries[at as usize], &entries[other as usize]) {
-                at
-            } else {
-                other
-            }
-        }
+    let Some(next) = links[at as usize].next else {
+        return at;
+    };
+    let other = least(links, entries, next);
+    if precedes(&entries[at as usize], &entries[other as usize]) {
+        at
+    } else {
+        other
     }
 }
 
@@ -41,14 +38,12 @@ pub fn take_out<T: Ordered + Copy>(links: &mut [Link], at: u16, i: u16) -> Optio
         set_next::<Link, T>(links, i, None);
         return next;
     }
-    match next {
-        None => Some(at),
-        Some(j) => {
-            let others = take_out::<T>(links, j, i);
-            set_next::<Link, T>(links, at, others);
-            Some(at)
-        }
-    }
+    let Some(j) = next else {
+        return Some(at);
+    };
+    let others = take_out::<T>(links, j, i);
+    set_next::<Link, T>(links, at, others);
+    Some(at)
 }
 
 // The children of a root, from the last on: their degrees rise.

@@ -21,18 +21,16 @@ fn carry<T: Ordered + Copy>(
     requires { (k : ℕ) × (s : Tree (Entry T)) × (t : Tree (Entry T)) × Apart (cells_of T.Ordered.le) (Lone k) (Rising k) links.old entries.now (Some i) rest s t }
     ensures { (k : ℕ) (s t : Tree (Entry T)) → Apart (cells_of T.Ordered.le) (Lone k) (Rising k) links.old entries.now (Some i) rest s t → Added (cells_of T.Ordered.le) (Rising k) links.old entries.now s t links.new result }
 {
-    match rest {
-        None => Some(i),
-        Some(j) => {
-            let first = links[j as usize];
-            if links[i as usize].degree < first.degree {
-                set_next::<Link, T>(links, i, rest);
-                Some(i)
-            } else {
-                let sum = join(links, entries, i, j, None);
-                carry(links, entries, sum, first.next)
-            }
-        }
+    let Some(j) = rest else {
+        return Some(i);
+    };
+    let first = links[j as usize];
+    if links[i as usize].degree < first.degree {
+        set_next::<Link, T>(links, i, rest);
+        Some(i)
+    } else {
+        let sum = join(links, entries, i, j, None);
+        carry(links, entries, sum, first.next)
     }
 }
 

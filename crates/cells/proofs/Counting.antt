@@ -1,5 +1,5 @@
 -- Count, for any form of heap: the kept number is the length of the queue's list.
-use Rattle.std.proofs.Common.{◌≡◌, ℕ, ◌<◌, ◌≤◌, Bool, true, false, cond, leb, get_or, List, Ok, Err, Result, refl, ap, ◌∙◌, arith}
+use Rattle.std.proofs.Common.{◌≡◌, ℕ, ◌<◌, ◌≤◌, Bool, true, false, cond, leb, get_or, List, Ok, Err, refl, ap, ◌∙◌, arith}
 use Rattle.std.proofs.lemmas.Bool.Decides.{nat_tests}
 use Rattle.elements.specs.declared.entries.Entry.{Entry}
 use Rattle.stores.specs.declared.refusals.Refusal.{Refusal}

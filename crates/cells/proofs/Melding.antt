@@ -15,31 +15,40 @@ use Rattle.stores.proofs.Answering.{melds_refused, meld_refused_into, meld_refus
 use Rattle.cells.specs.Trees.{Tree, leaf, size, uses}
 use Rattle.cells.specs.Forms.{Form, Stored, Meldable, Melded}
 use Rattle.cells.specs.Lawful.{Lawful}
-use Rattle.cells.specs.Queues.{Sound, queue_of, no_queue, lists, state_of, meaning_of, with_queue}
+use Rattle.cells.specs.Queues.{Sound, queue_of, no_queue, kept_queue, lists, state_of, meaning_of, with_queue}
 use Rattle.cells.specs.declared.heads.Queue.{Queue}
 use Rattle.cells.specs.declared.heads.Heads.{Heads}
 use Rattle.cells.proofs.IdleCells.{chain_framed}
 use Rattle.cells.proofs.Soundness.{one_at_most, all_framed, leaf_stored, lists_are, formed, at_stored, at_root, at_list, at_count, counted}
+use Rattle.cells.proofs.Counting.{kept_near}
 use Rattle.cells.proofs.Changing.{Done, done_by}
 
 module _ {T K : Type 0} {le : T → T → Bool} (F : Form le K) (lawful : Lawful F) {h : Heads} {ls : List K} {es : List (Entry T)} (s : Sound F h ls es) (a b : ℕ) where
   pub meld_into : 32 ≤ a → Melds le (meaning_of F h ls es) a b (Err QueueNumber) (meaning_of F h ls es)
   meld_into far = melds_refused (formed F lawful s) a b QueueNumber (meld_refused_into (state_of F h ls es) a b far)
 
-  module _ (near-a : a < 32) where
+  -- x is queue a as it is kept
+  module _ (x : Queue) (x-kept : Ok x ≡ kept_queue h a) where
+    near-a : a < 32
+    near-a = (kept_near h a x x-kept).0
+
     pub meld_from : 32 ≤ b → Melds le (meaning_of F h ls es) a b (Err QueueNumber) (meaning_of F h ls es)
     meld_from far = melds_refused (formed F lawful s) a b QueueNumber (meld_refused_from (state_of F h ls es) a b near-a far)
 
-    module _ (near-b : b < 32) where
+    -- and y queue b
+    module _ (y : Queue) (y-kept : Ok y ≡ kept_queue h b) where
+      near-b : b < 32
+      near-b = (kept_near h b y y-kept).0
+
       pub meld_same : a ≡ b → Melds le (meaning_of F h ls es) a b (Err SameQueue) (meaning_of F h ls es)
       meld_same e = melds_refused (formed F lawful s) a b SameQueue (meld_refused_same (state_of F h ls es) a b near-a near-b e)
 
       module _ (differ : a ≡ b → ⊥) where
         in_a : a < length s.trees
-        in_a = omega (arith, s.many)
+        in_a = omega (arith, near-a, s.many)
 
         in_b : (t : Tree (Entry T)) → b < length (set s.trees a t)
-        in_b t = omega (arith, s.many, length-set s.trees a t)
+        in_b t = omega (arith, near-b, s.many, length-set s.trees a t)
 
         -- a sum over the trees without the two
         without_both : (f : Tree (Entry T) → ℕ) → f leaf ≡ 0 → sum_by f (set (set s.trees a leaf) b leaf) + f (get_or s.trees a leaf) + f (get_or s.trees b leaf) ≡ sum_by f s.trees
@@ -48,11 +57,10 @@ module _ {T K : Type 0} {le : T → T → Bool} (F : Form le K) (lawful : Lawful
         none_counted : (k : ℕ) → tally stamp_of (F.list leaf) k ≡ 0
         none_counted k = ap (λ x. tally stamp_of x k) lawful.list_leaf
 
-        -- x and y are the roots and counts of the two
-        pub meldable : (x y : Queue) → x ≡ get_or h.queues a no_queue → y ≡ get_or h.queues b no_queue → Meldable F ls es x.root y.root (get_or s.trees a leaf) (get_or s.trees b leaf)
-        meldable x y x-is y-is = record {
-          one = record { at = ap (λ (z : Queue). z.root) x-is ∙ at_root F lawful s a near-a; stored = at_stored F lawful s a near-a };
-          two = record { at = ap (λ (z : Queue). z.root) y-is ∙ at_root F lawful s b near-b; stored = at_stored F lawful s b near-b };
+        pub meldable : Meldable F ls es x.root y.root (get_or s.trees a leaf) (get_or s.trees b leaf)
+        meldable = record {
+          one = record { at = ap (λ (z : Queue). z.root) (kept_near h a x x-kept).1 ∙ at_root F lawful s a near-a; stored = at_stored F lawful s a near-a };
+          two = record { at = ap (λ (z : Queue). z.root) (kept_near h b y y-kept).1 ∙ at_root F lawful s b near-b; stored = at_stored F lawful s b near-b };
           cells = λ k. omega (arith, without_both (λ x. uses x k) refl, s.cells k);
           stamps = λ k. omega (arith, without_both (λ x. tally stamp_of (F.list x) k) (none_counted k), s.stamps k, one_at_most (ltb k h.next));
           few = omega (arith, without_both size refl, s.total, s.sizes.few_cells);

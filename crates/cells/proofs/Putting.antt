@@ -14,19 +14,30 @@ use Rattle.cells.specs.Trees.{Tree, leaf, node, uses}
 use Rattle.cells.specs.IdleCells.{first, times, Chained}
 use Rattle.cells.specs.Forms.{Form, Meldable, Melded}
 use Rattle.cells.specs.Lawful.{Lawful}
-use Rattle.cells.specs.Queues.{Sound, no_queue, lists, state_of, meaning_of, with_queue, with_idle}
+use Rattle.cells.specs.Queues.{Sound, no_queue, kept_queue, lists, state_of, meaning_of, with_queue, with_idle}
 use Rattle.cells.specs.declared.heads.Queue.{Queue}
 use Rattle.cells.specs.declared.heads.Heads.{Heads}
 use Rattle.cells.proofs.Trees.{held_framed, set_framed}
 use Rattle.cells.proofs.IdleCells.{first_idle, chain_framed}
-use Rattle.cells.proofs.Soundness.{formed, full, not_full, at_stored, at_cells, at_size, at_stamps, at_root, at_list, at_count}
+use Rattle.cells.proofs.Soundness.{formed, full, not_full, at_stored, at_cells, at_size, at_stamps, at_root, at_list, at_count, few}
+use Rattle.cells.proofs.Counting.{kept_near}
 use Rattle.cells.proofs.Changing.{Done, done_by, Change, changed}
 
 module _ {T K : Type 0} {le : T → T → Bool} (F : Form le K) (lawful : Lawful F) {h : Heads} {ls : List K} {es : List (Entry T)} (s : Sound F h ls es) (q : ℕ) (x : T) where
   pub put_queue : 32 ≤ q → Puts le (meaning_of F h ls es) q x (Err QueueNumber) (meaning_of F h ls es)
   put_queue far = puts_refused (formed F lawful s) q x QueueNumber (put_refused_queue (meaning_of F h ls es) q far)
 
-  module _ (near : q < 32) where
+  -- old is the queue as it is kept
+  module _ (old : Queue) (kept : Ok old ≡ kept_queue h q) where
+    near : q < 32
+    near = (kept_near h q old kept).0
+
+    is_old : old ≡ get_or h.queues q no_queue
+    is_old = (kept_near h q old kept).1
+
+    pub old_few : old.count ≤ 4096
+    old_few = omega (arith, ap (λ (y : Queue). y.count) is_old, few F lawful s q near)
+
     pub put_cell : h.free ≡ None → Puts le (meaning_of F h ls es) q x (Err NoCell) (meaning_of F h ls es)
     put_cell none = puts_refused (formed F lawful s) q x NoCell (put_refused_cell (meaning_of F h ls es) q near (unlimited (length ls) h.stamps q (count_of (state_of F h ls es) q)) (omega (arith, full F lawful s none)))
 
@@ -108,22 +119,21 @@ module _ {T K : Type 0} {le : T → T → Bool} (F : Form le K) (lawful : Lawful
                   };
                 }
 
-        -- ls₁ and es₁ are the slices once the idle cell is taken, h₁ the heads, k the queue as it was: what the meld needs
-        -- and what it comes to
-        pub record Put (k : Queue) (h₁ : Heads) (ls₁ : List K) (es₁ : List (Entry T)) : Type 0 where
-          pub meldable : (u : Tree (Entry T)) × (t : Tree (Entry T)) × Meldable F ls₁ es₁ (Some i) k.root u t
-          pub done : (ls₂ : List K) (r : Option ℕ) → length ls₂ ≡ length ls₁ → Melded F ls₁ es₁ meldable.0 meldable.1 ls₂ r → (h₂ : Heads) → h₂ ≡ with_queue h₁ q r (k.count + 1) → Done F (Puts le (meaning_of F h ls es) q x (Ok h.next)) h₂ ls₂ es₁
+        -- ls₁ and es₁ are the slices once the idle cell is taken, h₁ the heads: what the meld needs and what it comes to
+        pub record Put (h₁ : Heads) (ls₁ : List K) (es₁ : List (Entry T)) : Type 0 where
+          pub meldable : (u : Tree (Entry T)) × (t : Tree (Entry T)) × Meldable F ls₁ es₁ (Some i) old.root u t
+          pub done : (ls₂ : List K) (r : Option ℕ) → length ls₂ ≡ length ls₁ → Melded F ls₁ es₁ meldable.0 meldable.1 ls₂ r → (h₂ : Heads) → h₂ ≡ with_queue h₁ q r (old.count + 1) → Done F (Puts le (meaning_of F h ls es) q x (Ok h.next)) h₂ ls₂ es₁
 
         pub put_inside : (i < length ls) × (i < length es)
         put_inside = let p = first_idle s.idle i (sym free ∙ s.free) in (idle_cell p.0 p.1, omega (arith, idle_cell p.0 p.1, s.long))
 
-        putting_in : Put (get_or h.queues q no_queue) (with_idle h (F.right (get_or ls i F.none)) (h.next + 1)) (set ls i (F.link leaf leaf)) (set es i entry)
+        putting_in : Put (with_idle h (F.right (get_or ls i F.none)) (h.next + 1)) (set ls i (F.link leaf leaf)) (set es i entry)
         putting_in =
             let p = first_idle s.idle i (sym free ∙ s.free) in
             record {
-              meldable = (node i entry leaf leaf, get_or s.trees q leaf, put_meldable p.0 p.1);
-              done = λ ls₂ r long m h₂ e. done_by F (Puts le (meaning_of F h ls es) q x (Ok h.next)) e refl (put_done p.0 p.1 ls₂ r (long ∙ length-set ls i (F.link leaf leaf)) m);
+              meldable = (node i entry leaf leaf, get_or s.trees q leaf, subst (λ (y : Queue). Meldable F (set ls i (F.link leaf leaf)) (set es i entry) (Some i) y.root (node i entry leaf leaf) (get_or s.trees q leaf)) (sym is_old) (put_meldable p.0 p.1));
+              done = λ ls₂ r long m h₂ e. done_by F (Puts le (meaning_of F h ls es) q x (Ok h.next)) (e ∙ ap (λ (y : Queue). with_queue (with_idle h (F.right (get_or ls i F.none)) (h.next + 1)) q r (y.count + 1)) is_old) refl (put_done p.0 p.1 ls₂ r (long ∙ length-set ls i (F.link leaf leaf)) m);
             }
 
-        pub putting : (k : Queue) → k ≡ get_or h.queues q no_queue → (h₁ : Heads) (ls₁ : List K) (es₁ : List (Entry T)) → h₁ ≡ with_idle h (F.right (get_or ls i F.none)) (h.next + 1) → ls₁ ≡ set ls i (F.link leaf leaf) → es₁ ≡ set es i entry → Put k h₁ ls₁ es₁
-        putting k e h₁ ls₁ es₁ a b c = subst (λ y. Put k h₁ ls₁ y) (sym c) (subst (λ y. Put k h₁ y (set es i entry)) (sym b) (subst (λ y. Put k y (set ls i (F.link leaf leaf)) (set es i entry)) (sym a) (subst (λ y. Put y (with_idle h (F.right (get_or ls i F.none)) (h.next + 1)) (set ls i (F.link leaf leaf)) (set es i entry)) (sym e) putting_in)))
+        pub putting : (h₁ : Heads) (ls₁ : List K) (es₁ : List (Entry T)) → h₁ ≡ with_idle h (F.right (get_or ls i F.none)) (h.next + 1) → ls₁ ≡ set ls i (F.link leaf leaf) → es₁ ≡ set es i entry → Put h₁ ls₁ es₁
+        putting h₁ ls₁ es₁ a b c = subst (λ y. Put h₁ ls₁ y) (sym c) (subst (λ y. Put h₁ y (set es i entry)) (sym b) (subst (λ y. Put y (set ls i (F.link leaf leaf)) (set es i entry)) (sym a) putting_in))

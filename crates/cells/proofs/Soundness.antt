@@ -1,5 +1,5 @@
 -- What is known of a sound store: its lists, its counts, each queue's heap, and that its meaning is well-formed.
-use Rattle.std.proofs.Common.{◌≡◌, ℕ, ◌+◌, ◌<◌, ◌≤◌, Bool, true, false, cond, ltb, List, [], ◌∷◌, map, length, get_or, Some, None, sum_by, Option, sym, refl, ap, ◌∙◌, subst, arith}
+use Rattle.std.proofs.Common.{◌≡◌, ℕ, ◌+◌, ◌<◌, ◌≤◌, Bool, true, false, cond, ltb, List, [], ◌∷◌, map, length, get_or, Some, None, sum_by, sym, refl, ap, ◌∙◌, subst, arith}
 use lib.ListN.{length-map}
 use Rattle.std.proofs.lemmas.List.{get_or-map}
 use Rattle.std.proofs.ByRecursion.{All-get_or}
@@ -10,7 +10,7 @@ use Rattle.elements.specs.Order.{precedes_by, stamp_of}
 use Rattle.stores.specs.SortedLists.{tally, Sorted}
 use Rattle.stores.specs.Meaning.{WellFormed, live}
 use Rattle.stores.proofs.Answering.{no_heights}
-use Rattle.cells.specs.Trees.{Tree, leaf, node, root, size, uses, tree_at}
+use Rattle.cells.specs.Trees.{Tree, leaf, root, size, uses, tree_at}
 use Rattle.cells.specs.IdleCells.{times}
 use Rattle.cells.specs.Forms.{Form, Stored}
 use Rattle.cells.specs.Lawful.{Lawful}

@@ -16,12 +16,13 @@ use Rattle.cells.specs.Trees.{Tree, leaf, node, size, uses}
 use Rattle.cells.specs.IdleCells.{times}
 use Rattle.cells.specs.Forms.{Form, HeapAt, Built, FrontIn, FrontTaken}
 use Rattle.cells.specs.Lawful.{Lawful}
-use Rattle.cells.specs.Queues.{Sound, no_queue, lists, state_of, meaning_of, with_queue, with_idle}
+use Rattle.cells.specs.Queues.{Sound, no_queue, kept_queue, lists, state_of, meaning_of, with_queue, with_idle}
 use Rattle.cells.specs.declared.heads.Queue.{Queue}
 use Rattle.cells.specs.declared.heads.Heads.{Heads}
 use Rattle.cells.proofs.Trees.{node_at, set_framed}
 use Rattle.cells.proofs.IdleCells.{chain_framed}
 use Rattle.cells.proofs.Soundness.{formed, at_stored, at_cells, at_size, at_stamps_once, at_root, at_list, at_count, list_none}
+use Rattle.cells.proofs.Counting.{kept_near}
 use Rattle.cells.proofs.Changing.{Done, done_by, Change, changed}
 
 module _ {T K : Type 0} {le : T → T → Bool} (F : Form le K) {ls : List K} {es : List (Entry T)} where
@@ -54,29 +55,34 @@ module _ {T K : Type 0} {le : T → T → Bool} (F : Form le K) (lawful : Lawful
   pub take_queue : 32 ≤ q → Takes le (meaning_of F h ls es) q (Err QueueNumber) (meaning_of F h ls es)
   take_queue far = takes_refused (formed F lawful s) q QueueNumber (first_queue far)
 
-  module _ (near : q < 32) where
-    -- k is the queue's root and count
-    module _ (k : Queue) (kept : k ≡ get_or h.queues q no_queue) where
-      root_is : (o : Option ℕ) → k.root ≡ o → (get_or h.queues q no_queue).root ≡ o
-      root_is o e = ap (λ (y : Queue). y.root) (sym kept) ∙ e
+  -- old is the queue as it is kept
+  module _ (old : Queue) (kept : Ok old ≡ kept_queue h q) where
+    near : q < 32
+    near = (kept_near h q old kept).0
 
-      pub first_none : k.root ≡ None → Ok None ≡ first_answer (state_of F h ls es) q
-      first_none none = first_told (state_of F h ls es) q None near (sym (ap front (list_none F lawful s q near (root_is None none))))
+    is_old : old ≡ get_or h.queues q no_queue
+    is_old = (kept_near h q old kept).1
 
-      pub take_none : k.root ≡ None → Takes le (meaning_of F h ls es) q (Ok None) (meaning_of F h ls es)
-      take_none none = takes_none (formed F lawful s) q (first_none none)
+    root_is : (o : Option ℕ) → old.root ≡ o → (get_or h.queues q no_queue).root ≡ o
+    root_is o e = ap (λ (y : Queue). y.root) (sym is_old) ∙ e
 
-      -- the queue's heap, whose root is in cell r
-      pub heap_at : (r : ℕ) → k.root ≡ Some r → HeapAt F ls es (Some r) (get_or s.trees q leaf)
-      heap_at r root = record {
-        stored_at = record { at = sym root ∙ ap (λ (y : Queue). y.root) kept ∙ at_root F lawful s q near; stored = at_stored F lawful s q near };
-        cells = λ j. omega (arith, at_cells F lawful s q near j);
-        stamps = at_stamps_once F lawful s q near;
-        few = omega (arith, at_size F lawful s q near, s.sizes.few_cells);
-      }
+    pub first_none : old.root ≡ None → Ok None ≡ first_answer (state_of F h ls es) q
+    first_none none = first_told (state_of F h ls es) q None near (sym (ap front (list_none F lawful s q near (root_is None none))))
 
-      pub some_counted : (r : ℕ) → k.root ≡ Some r → 1 ≤ k.count
-      some_counted r root = omega (arith, ap (λ (y : Queue). y.count) kept, at_count F lawful s q near, ap size (node_at (get_or s.trees q leaf) r (heap_at r root).stored_at.at).is)
+    pub take_none : old.root ≡ None → Takes le (meaning_of F h ls es) q (Ok None) (meaning_of F h ls es)
+    take_none none = takes_none (formed F lawful s) q (first_none none)
+
+    -- the queue's heap, whose root is in cell r
+    pub heap_at : (r : ℕ) → old.root ≡ Some r → HeapAt F ls es (Some r) (get_or s.trees q leaf)
+    heap_at r root = record {
+      stored_at = record { at = sym root ∙ ap (λ (y : Queue). y.root) is_old ∙ at_root F lawful s q near; stored = at_stored F lawful s q near };
+      cells = λ j. omega (arith, at_cells F lawful s q near j);
+      stamps = at_stamps_once F lawful s q near;
+      few = omega (arith, at_size F lawful s q near, s.sizes.few_cells);
+    }
+
+    pub some_counted : (r : ℕ) → old.root ≡ Some r → 1 ≤ old.count
+    some_counted r root = omega (arith, ap (λ (y : Queue). y.count) is_old, at_count F lawful s q near, ap size (node_at (get_or s.trees q leaf) r (heap_at r root).stored_at.at).is)
 
     -- what is read in the cell i of the front entry is the answer
     pub first_some : {i : ℕ} → FrontIn F es (get_or s.trees q leaf) i → Ok (slice_get es i) ≡ first_answer (state_of F h ls es) q
@@ -118,9 +124,8 @@ module _ {T K : Type 0} {le : T → T → Bool} (F : Form le K) (lawful : Lawful
             };
           }
 
-      -- k is the queue as it was, o what is read in cell i, h₁ and ls₁ are what is left once the cell is idle, h₂ the heads
-      -- in the end
-      pub taking : (k : Queue) → k ≡ get_or h.queues q no_queue → (o : Option (Entry T)) → o ≡ slice_get es i → (h₁ h₂ : Heads) (ls₁ : List K) → h₁ ≡ with_idle h (Some i) h.next → ls₁ ≡ set ls' i (F.idle h.free) → h₂ ≡ with_queue h₁ q r (k.count - 1) → Done F (Takes le (meaning_of F h ls es) q (Ok o)) h₂ ls₁ es
-      taking k kept o read h₁ h₂ ls₁ a b c =
+      -- o is what is read in cell i, h₁ and ls₁ are what is left once the cell is idle, h₂ the heads in the end
+      pub taking : (o : Option (Entry T)) → o ≡ slice_get es i → (h₁ h₂ : Heads) (ls₁ : List K) → h₁ ≡ with_idle h (Some i) h.next → ls₁ ≡ set ls' i (F.idle h.free) → h₂ ≡ with_queue h₁ q r (old.count - 1) → Done F (Takes le (meaning_of F h ls es) q (Ok o)) h₂ ls₁ es
+      taking o read h₁ h₂ ls₁ a b c =
           let some : o ≡ Some m.front = read ∙ slice_get_read es (length es) i m.front refl m.within.1 m.held in
-          subst (λ y. Done F (Takes le (meaning_of F h ls es) q (Ok y)) h₂ ls₁ es) (sym some) (done_by F (Takes le (meaning_of F h ls es) q (Ok (Some m.front))) (c ∙ (λ j. with_queue (a j) q r ((kept j).count - 1))) b take_done)
+          subst (λ y. Done F (Takes le (meaning_of F h ls es) q (Ok y)) h₂ ls₁ es) (sym some) (done_by F (Takes le (meaning_of F h ls es) q (Ok (Some m.front))) (c ∙ (λ j. with_queue (a j) q r ((is_old j).count - 1))) b take_done)

@@ -1,6 +1,5 @@
 // What a cell of the link slice holds: the one type in which heaps differ.
 ghost use Rattle.std.specs.Prelude.{◌≡◌, Bool, Some};
-ghost use Rattle.elements.specs.Order.{Strict, precedes_by, stamp_of};
 ghost use Rattle.cells.specs.Trees.{Tree, leaf};
 ghost use Rattle.cells.specs.Forms.{Form, HeapAt, Meldable, Melded, FrontIn, FrontTaken};
 ghost use Rattle.cells.specs.Lawful.{Lawful};
@@ -38,5 +37,5 @@ pub trait HeapLink<T: Ordered + Copy>: Copy {
         requires { (t : Tree (Entry T)) × HeapAt (form T.Ordered.le) links.old entries.now (Some root) t }
         ensures { (t : Tree (Entry T)) → HeapAt (form T.Ordered.le) links.old entries.now (Some root) t → FrontTaken (form T.Ordered.le) links.old entries.now t links.new result.0 result.1 };
 
-    ghost lawful: { Strict (precedes_by T.Ordered.le) (stamp_of {T = T}) → Lawful (form T.Ordered.le) };
+    ghost lawful: { Lawful (form T.Ordered.le) };
 }

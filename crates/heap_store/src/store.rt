@@ -1,7 +1,6 @@
 // The store over two lent slices.
 ghost use Rattle.std.specs.Prelude.{◌≡◌, ◌<◌, ◌+◌, length, Some, refl, slice_index_or, slice_set};
 ghost use Rattle.std.specs.List.{slice_get};
-ghost use Rattle.elements.proofs.Strictness.{strict};
 ghost use Rattle.stores.specs.Meaning.{WellFormed, fresh_bare};
 ghost use Rattle.stores.specs.Promises.{Puts, Takes, Melds, Bare, Unchanged};
 ghost use Rattle.cells.specs.Trees.{Tree, leaf};
@@ -209,7 +208,7 @@ impl<'a, L: HeapLink<T>, T: Ordered + Copy> Store for HeapStore<'a, L, T> {
         0
     }
 
-    ghost formed = { λ s h. formed (L.form T.Ordered.le) (L.lawful (strict T.Ordered.le T.Ordered.laws)) h };
+    ghost formed = { λ s h. formed (L.form T.Ordered.le) L.lawful h };
 }
 
 impl<'a, L: HeapLink<T>, T: Ordered + Copy> BareHeap for HeapStore<'a, L, T> {

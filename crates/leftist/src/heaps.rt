@@ -1,4 +1,5 @@
 // The heaps of a store: the front entry is at the root, and the two subtrees of a root that leaves are melded.
+ghost use Rattle.elements.proofs.Strictness.{strict};
 ghost use Rattle.leftist.specs.Leftist.{leftist};
 ghost use Rattle.leftist.specs.Lawful.{lawful};
 
@@ -15,7 +16,11 @@ impl<T: Ordered + Copy> HeapLink<T> for Link {
     ghost form = { leftist };
 
     fn single() -> Link {
-        Link::single()
+        Link {
+            left: None,
+            right: None,
+            rank: 1,
+        }
     }
 
     fn idle(next: Option<u16>) -> Link {
@@ -44,5 +49,5 @@ impl<T: Ordered + Copy> HeapLink<T> for Link {
         (root, trees::meld(links, entries, left, right))
     }
 
-    ghost lawful = { lawful T.Ordered.le };
+    ghost lawful = { lawful T.Ordered.le (strict T.Ordered.le T.Ordered.laws) };
 }

@@ -11,10 +11,7 @@ fn rank_of(links: &[Link], at: Option<u16>) -> u16
     requires { IfSome at (λ i. i < length links.now) }
     ensures { result ≡ rank_at links.now at }
 {
-    match at {
-        None => 0,
-        Some(i) => links[i as usize].rank,
-    }
+    at.map_or(0, |i| links[i as usize].rank)
 }
 
 // Makes the left subtree of i and the tree at rest the subtrees of i.

@@ -1,4 +1,5 @@
 // The heaps of a store: the front entry is at the root, and the children of a root that leaves become one tree.
+ghost use Rattle.elements.proofs.Strictness.{strict};
 ghost use Rattle.pairing.specs.Pairing.{cells_of, pairing};
 ghost use Rattle.pairing.specs.Lawful.{laid, lawful};
 
@@ -39,7 +40,10 @@ impl<T: Ordered + Copy> HeapLink<T> for Link {
     ghost form = { pairing };
 
     fn single() -> Link {
-        Link::single()
+        Link {
+            child: None,
+            next: None,
+        }
     }
 
     fn idle(next: Option<u16>) -> Link {
@@ -75,5 +79,5 @@ impl<T: Ordered + Copy> HeapLink<T> for Link {
         (root, gather(links, entries, paired))
     }
 
-    ghost lawful = { lawful T.Ordered.le };
+    ghost lawful = { lawful T.Ordered.le (strict T.Ordered.le T.Ordered.laws) };
 }

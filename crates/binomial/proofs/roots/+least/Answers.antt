@@ -21,8 +21,8 @@ bounds-entries-other g t c =
     let w = look le (strict le g.met.T.Ordered.laws) _ c.in-Some.is c.requires.1 in
     w.inside _ _ (c.least-other.ensures _ w.forest).1
 
-pub returns-in-None : goal.returns-in-None
-returns-in-None g t c s p = let le = g.T.Ordered.le in look_none le (strict le g.met.T.Ordered.laws) s c.in-None.is p
+pub returns-in_default : goal.returns-in_default
+returns-in_default g t c s p = let le = g.T.Ordered.le in look_none le (strict le g.met.T.Ordered.laws) s c.in_default.is p
 
 pub returns-then-precedes : goal.returns-then-precedes
 returns-then-precedes g t c s p =

@@ -12,11 +12,11 @@ take_out-others-requires g t c κs within =
 pub returns-then-at-i : goal.returns-then-at-i
 returns-then-at-i g t c es k x u p l = let le = g.T.Ordered.le in (turn le (strict le g.met.T.Ordered.laws) u p l).first c.if-at-i.true _ c.set_next.ensures
 
-pub returns-in-None : goal.returns-in-None
-returns-in-None g t c es k x u p l = let le = g.T.Ordered.le in absurd ((turn le (strict le g.met.T.Ordered.laws) u p l).none c.in-None.is c.if-at-i.false)
+pub returns-in_default : goal.returns-in_default
+returns-in_default g t c es k x u p l = let le = g.T.Ordered.le in absurd ((turn le (strict le g.met.T.Ordered.laws) u p l).none c.in_default.is c.if-at-i.false)
 
-pub returns-in-Some : goal.returns-in-Some
-returns-in-Some g t c es k x u p l =
+pub returns : goal.returns
+returns g t c es k x u p l =
     let le = g.T.Ordered.le in
     let w = turn le (strict le g.met.T.Ordered.laws) u p l in
-    w.ends _ c.in-Some.is c.if-at-i.false _ _ (omega (arith, c.take_out-others.auto.links)) (c.take_out-others.ensures _ _ _ _ (w.forest _ c.in-Some.is c.if-at-i.false) (w.least c.if-at-i.false)) _ c.set_next-in-Some.ensures (omega (arith, c.set_next-in-Some.auto.links))
+    w.ends _ c.in-Some.is c.if-at-i.false _ _ (omega (arith, c.take_out-others.auto.links)) (c.take_out-others.ensures _ _ _ _ (w.forest _ c.in-Some.is c.if-at-i.false) (w.least c.if-at-i.false)) _ c.set_next-2.ensures (omega (arith, c.set_next-2.auto.links))

@@ -20,8 +20,8 @@ carry-requires g t c κs within =
     let p = w.apart c.if-links-i.false _ _ (omega (arith, c.join-sum.auto.links)) (twins_joined le (w.twins c.if-links-i.false) (c.join-sum.ensures _ _ _ (w.twins c.if-links-i.false).joinable)) in
     (omega (arith, c.decreases, w.fewer, extent_is (cells_of le) (laid le) (omega (arith, c.requires.3.few)) c.requires.3.two, extent_is (cells_of le) (laid le) (omega (arith, p.few)) p.two), (within, (_, _, _, p)))
 
-pub returns-in-None : goal.returns-in-None
-returns-in-None g t c k s u p = let le = g.T.Ordered.le in carry_none le (strict le g.met.T.Ordered.laws) s u c.in-None.is p
+pub returns-in_default : goal.returns-in_default
+returns-in_default g t c k s u p = let le = g.T.Ordered.le in carry_none le (strict le g.met.T.Ordered.laws) s u c.in_default.is p
 
 pub returns-then-links-i : goal.returns-then-links-i
 returns-then-links-i g t c k s u p = let le = g.T.Ordered.le in (carry_turn le (strict le g.met.T.Ordered.laws) s u c.in-Some.is p).front c.if-links-i.true c.set_next.ensures

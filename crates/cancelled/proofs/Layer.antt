@@ -1,5 +1,5 @@
 -- The layer at rest: its meaning is well-formed, and its questions are answered by the marks, the counts and the heap.
-use Rattle.std.proofs.Common.{◌≡◌, ℕ, ◌+◌, ◌<◌, ◌≤◌, Bool, cond, ◌||◌, eqb, leb, ◌≢◌, List, [], ◌∷◌, map, length, get_or, Ok, Err, sum_by, sym, refl, ap, ◌∙◌, inl, inr, arith}
+use Rattle.std.proofs.Common.{◌≡◌, ℕ, ◌+◌, ◌≤◌, Bool, cond, ◌||◌, eqb, leb, ◌≢◌, List, [], ◌∷◌, map, length, get_or, Ok, Err, sum_by, sym, refl, ap, ◌∙◌, inl, inr, arith}
 use Rattle.std.specs.List.{AllByRecursion}
 use Rattle.std.proofs.ByRecursion.{All-weaker}
 use Rattle.std.proofs.lemmas.List.{length-map}
@@ -11,9 +11,8 @@ use Rattle.stores.specs.declared.refusals.Refusal.{Refusal}
 use Rattle.stores.specs.declared.refusals.Refusal.TheVariants.{QueueNumber}
 use Rattle.stores.specs.SortedLists.{tally, Sorted}
 use Rattle.stores.specs.Meaning.{Pair, Fixed, Meaning, WellFormed, list_of, count_of, live, limits_of}
-use Rattle.stores.specs.Calls.{put_answer, front, first_answer, meld_answer, count_answer}
+use Rattle.stores.specs.Calls.{put_answer, front, first_answer, meld_answer}
 use Rattle.stores.specs.Promises.{Bare}
-use Rattle.stores.proofs.Answering.{count_told}
 use Rattle.cancelled.specs.Cancelled.{kept, lazily, Front, Marked, Over}
 use Rattle.cancelled.proofs.Keeping.{tally_kept, front_kept}
 use Rattle.cancelled.proofs.Joining.{kept_sorted}
@@ -60,9 +59,6 @@ module _ {T : Type 0} {le : T → T → Bool} {B : Type 0} (marks counts : List 
   pub queues_kept : length (map (kept marks) m.state.lists) ≡ 32
   queues_kept = length-map m.state.lists (kept marks) ∙ o.formed.queues
 
-  pub counts_long : length counts ≡ 32
-  counts_long = ap length o.marked.counted ∙ length-map (map (kept marks) m.state.lists) length ∙ queues_kept
-
   pub counts_at : (q : ℕ) → get_or counts q 0 ≡ count_of (lazily marks m).state q
   counts_at q = ap (λ l. get_or l q 0) o.marked.counted ∙ map_at length [] 0 refl (map (kept marks) m.state.lists) q
 
@@ -74,9 +70,6 @@ module _ {T : Type 0} {le : T → T → Bool} {B : Type 0} (marks counts : List 
 
   pub counts_few : (a b : ℕ) → a ≢ b → get_or counts a 0 + get_or counts b 0 ≤ 4096
   counts_few a b ne = omega (arith, counts_at a, counts_at b, live_few, sum_two length [] refl (map (kept marks) m.state.lists) a b ne)
-
-  pub count_lazily : (q : ℕ) → q < 32 → Ok (get_or counts q 0) ≡ count_answer (lazily marks m).state q
-  count_lazily q near = count_told (lazily marks m).state q (get_or counts q 0) near (counts_at q)
 
   pub front_at : (q : ℕ) → Front marks (list_of m.state q)
   front_at q = all_at (Front marks) [] tt m.state.lists q o.marked.fronts

@@ -41,9 +41,6 @@ pub record Purging {T : Type 0} (le : T → T → Bool) (marks : List ℕ) (m : 
   pub bare : Bare n
 
 module _ {T : Type 0} {le : T → T → Bool} (marks : List ℕ) (m : Meaning T) (q : ℕ) where
-  pub purging_none : WellFormed le m → Bare m → Purging le marks m q m
-  purging_none f b = record { ahead = refl; fixed = refl; formed = f; bare = b }
-
   module _ (n : Meaning T) (p : Purging le marks m q n) where
     pub purging_done : (test : Bool) → test ≡ front_cancelled marks (list_of n.state q) → test ≡ false → Purges le marks m q n
     purging_done test is off = record { after = purge_done marks n.state q (sym is ∙ off) ∙ p.ahead; fixed = p.fixed; formed = p.formed; bare = p.bare }
@@ -58,6 +55,3 @@ module _ {T : Type 0} {le : T → T → Bool} (marks : List ℕ) (m : Meaning T)
 
       pub purging_more : Bare k → Purging le marks m q k
       purging_more b = record { ahead = ap (λ z. purge_after marks z q) left ∙ (purge_more marks n.state q long (sym is ∙ on)).0 ∙ p.ahead; fixed = t.fixed ∙ p.fixed; formed = t.formed; bare = b }
-
-      pub purging_less : count_of k.state q < count_of n.state q
-      purging_less = omega (arith, ap (λ z. count_of z q) left, (purge_more marks n.state q long (sym is ∙ on)).1)

@@ -3,17 +3,14 @@ use Rattle.std.proofs.Common.{◌≡◌, ℕ, Bool, List, None, Ok, Err, sum_by,
 use Rattle.elements.specs.declared.entries.Entry.{Entry}
 use Rattle.elements.specs.Order.{Strict, precedes_by, stamp_of}
 use Rattle.stores.specs.declared.refusals.Refusal.{Refusal}
-use Rattle.stores.specs.Meaning.{State, Meaning, WellFormed}
+use Rattle.stores.specs.Meaning.{Meaning}
 use Rattle.stores.specs.Calls.{take_after}
-use Rattle.stores.specs.Promises.{Puts, Takes, Melds, Bare}
+use Rattle.stores.specs.Promises.{Puts, Takes, Melds}
 use Rattle.stores.proofs.Answering.{puts_refused, takes_refused, takes_none, melds_refused}
-use Rattle.cancelled.specs.Cancelled.{cancelled, lazily, lazily_state, lazily_fixed, Marked, Over}
-use Rattle.cancelled.proofs.Layer.{formed_lazily, over_next, first_lazily, put_answer_lazily, meld_refused_lazily}
+use Rattle.cancelled.specs.Cancelled.{cancelled, lazily, lazily_state, lazily_fixed, Over}
+use Rattle.cancelled.proofs.Layer.{formed_lazily, first_lazily, put_answer_lazily, meld_refused_lazily}
 
 module _ {T : Type 0} {le : T → T → Bool} {B : Type 0} (marks counts : List ℕ) (h : ℕ) (m : Meaning T) (o : Over le B marks counts h m) (n : Meaning T) where
-  pub over_same : {C : Type 0} → C → WellFormed le n → Bare n → n.fixed ≡ m.fixed → n.state ≡ m.state → Over le C marks counts h n
-  over_same c f b fixed same = over_next marks counts h m o marks counts n c f b fixed (subst (λ (z : State T). Marked marks counts z.lists) (sym same) o.marked)
-
   same_meaning : n.fixed ≡ m.fixed → n.state ≡ m.state → lazily marks m ≡ lazily marks n
   same_meaning fixed same = λ j. record { state = lazily_state marks (sym same j); fixed = lazily_fixed (sym fixed j); held = sum_by (cancelled marks) (sym same j).lists }
 

@@ -5,7 +5,7 @@ use Rattle.stores.specs.declared.refusals.Refusal.{Refusal}
 use Rattle.stores.specs.Meaning.{Meaning}
 use Rattle.stores.specs.Calls.{put_answer, put_after}
 use Rattle.stores.specs.Promises.{Puts}
-use Rattle.dispatch.specs.Dispatching.{after_put, after_puts, Accepted, Admitted, Admits, Served, Dispatched}
+use Rattle.dispatch.specs.Dispatching.{after_put, after_puts, Accepted, Admitted, Admits}
 
 module _ {T : Type 0} (le : T → T → Bool) where
   after_puts_push : (m : Meaning T) (xs : List T) (x : T) → after_puts le m (xs ++ x ∷ []) ≡ after_put le (after_puts le m xs) x

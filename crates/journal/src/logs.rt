@@ -11,7 +11,9 @@ pub enum Change {
     Cancel { stamp: u16 },
 }
 
-// The first `used` places are used in turn: `at` is the next one to write, and `filled` of them hold a change.
+// The first `used` places are used in turn: `at` is the next one to write, and `filled` of them hold a change. A ring in an
+// array, since the memory of a layer is fixed. What holds of a log is a condition and no ghost field: the checker covers no
+// layer with one over a store that holds a `&mut`.
 #[derive(Drop)]
 pub struct Log {
     places: [Change; 1024],

@@ -1,8 +1,7 @@
 -- One pass over the cells: what is known after i of them.
-use Rattle.std.proofs.Common.{◌≡◌, ℕ, ◌+◌, ◌<◌, ◌≤◌, Bool, true, false, cond, eqb, ◌⊎◌, List, ◌∷◌, length, get_or, take, drop, is_some, Some, None, Option, sym, refl, ap, ◌∙◌, subst, inl, inr, arith}
+use Rattle.std.proofs.Common.{◌≡◌, ℕ, ◌+◌, ◌<◌, ◌≤◌, Bool, true, false, eqb, ◌⊎◌, List, ◌∷◌, length, get_or, drop, Some, None, Option, sym, ap, ◌∙◌, subst, inl, inr, arith}
 use Rattle.std.proofs.lemmas.List.{at_drop_more, at_drop_all}
 use Rattle.std.proofs.lemmas.List.Elements.{at_read}
-use Rattle.std.proofs.lemmas.List.Sums.{sum_by_more}
 use Rattle.std.proofs.lemmas.Bool.{cases_Bool, cond-true, cond-false, eqb-true}
 use Rattle.elements.specs.declared.entries.Entry.{Entry}
 use Rattle.elements.specs.Order.{Laws, precedes_by}
@@ -10,7 +9,6 @@ use Rattle.elements.proofs.Strictness.{strict}
 use Rattle.stores.specs.SortedLists.{insert}
 use Rattle.stores.specs.Calls.{front}
 use Rattle.stores.proofs.Inserting.{front_behind, front_ahead}
-use Rattle.records.specs.declared.cells.Record.{Record}
 use Rattle.records.specs.Cells.{Cell, entry_in, entering, queue_of, Holds, FrontAt, earlier}
 
 -- at the element x, which stands at i

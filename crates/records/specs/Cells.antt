@@ -1,5 +1,5 @@
 -- What the cells of a slice hold: the list of each queue, how many entries it has, and where a record stands.
-use Rattle.std.specs.Prelude.{◌≡◌, ℕ, ◌+◌, ◌<◌, Bool, false, cond, not, List, [], ◌∷◌, map, length, is_some, Some, None, count_by, position, Option, ◌==◌}
+use Rattle.std.specs.Prelude.{◌≡◌, ℕ, ◌<◌, Bool, false, cond, not, List, [], ◌∷◌, map, length, is_some, Some, None, count_by, position, Option, ◌==◌}
 use Rattle.std.specs.List.{range_with_len, HoldsAt}
 use Rattle.elements.specs.declared.entries.Entry.{Entry}
 use Rattle.elements.specs.Order.{precedes_by}

@@ -14,7 +14,8 @@ pub struct Record<T> {
 pub fn entry_in<T: Copy>(cell: &Option<Record<T>>, queue: u8) -> Option<Entry<T>>
     ensures { result ≡ entry_in queue cell.now }
 {
-    cell.filter(|record| record.queue == queue).map(|record| record.entry)
+    cell.filter(|record| record.queue == queue)
+        .map(|record| record.entry)
 }
 
 // The record of the cell, where its entry has the stamp.

@@ -15,7 +15,9 @@ pub fn empty_cell<T: Copy>(cells: &[Option<Record<T>>]) -> Option<usize>
 fn stamped<T: Copy>(cells: &[Option<Record<T>>], stamp: u16) -> Option<usize>
     ensures { result ≡ position (has_stamp stamp) cells.now }
 {
-    cells.iter().position(|cell| with_stamp(cell, stamp).is_some())
+    cells
+        .iter()
+        .position(|cell| with_stamp(cell, stamp).is_some())
 }
 
 // The first cell whose entry has the stamp, and its record.
@@ -35,18 +37,12 @@ fn earlier<T: Ordered + Copy>(
     ensures { result ≡ earlier T.Ordered.le front i entry }
 {
     match front {
-        Some((j, other)) => {
-            if precedes(&entry, &other) {
-                (i, entry)
-            } else {
-                (j, other)
-            }
-        }
-        None => (i, entry),
+        Some((j, other)) if !precedes(&entry, &other) => (j, other),
+        _ => (i, entry),
     }
 }
 
-// The queue's front entry, and its cell.
+// The queue's front entry, and its cell. A fold would be no plainer: it has this step in a closure.
 pub fn front_in<T: Ordered + Copy>(
     cells: &[Option<Record<T>>],
     queue: u8,
@@ -66,7 +62,10 @@ pub fn front_in<T: Ordered + Copy>(
 pub fn count_in<T: Copy>(cells: &[Option<Record<T>>], queue: u8) -> usize
     ensures { result ≡ queued queue cells.now }
 {
-    cells.iter().filter(|cell| entry_in(cell, queue).is_some()).count()
+    cells
+        .iter()
+        .filter(|cell| entry_in(cell, queue).is_some())
+        .count()
 }
 
 // The records of the queue `from` go into the queue `into`.

@@ -1,5 +1,5 @@
 -- What a table stands for after a call that changes it.
-use Rattle.std.proofs.Common.{◌≡◌, ℕ, ◌+◌, ◌<◌, Bool, cond, List, [], map, length, get_or, set, Some, None, Ok, Err, sym, refl, ap, ◌∙◌, subst, arith, ◌⊎◌, ◌≤◌, ⊎_elim}
+use Rattle.std.proofs.Common.{◌≡◌, ℕ, ◌+◌, ◌<◌, Bool, cond, List, [], map, length, get_or, set, Some, None, Ok, Err, sym, refl, ap, ◌∙◌, subst, arith, ◌⊎◌, ◌≤◌, position, ⊎_elim}
 use Rattle.std.proofs.lemmas.List.{length-set, length-map}
 use Rattle.std.proofs.ByRecursion.{All-set}
 use Rattle.std.proofs.lemmas.Bool.{eq-eqb}
@@ -15,7 +15,7 @@ use Rattle.stores.specs.Promises.{Puts, Takes, Melds, Cancels}
 use Rattle.stores.proofs.Inserting.{rest_insert, without-insert, has_none, has_some, tally-insert}
 use Rattle.stores.proofs.Answering.{unlimited, first_refused, put_refused_queue, put_refused_cell, put_refused_stamp, put_told, meld_refused_into, meld_refused_from, meld_refused_same, meld_told, puts_refused, takes_refused, takes_none, melds_refused, cancels_refused}
 use Rattle.records.specs.declared.cells.Record.{Record}
-use Rattle.records.specs.Cells.{Cell, empty, Numbered, queue_of, lists_of, queued, stamped, moved, position, has_stamp, Holds, StampedAt, FrontAt}
+use Rattle.records.specs.Cells.{Cell, empty, Numbered, queue_of, lists_of, queued, stamped, moved, has_stamp, Holds, StampedAt, FrontAt}
 use Rattle.records.proofs.Positions.{position_none}
 use Rattle.records.proofs.Counts.{none_empty, one_empty, stamp_is, numbered_at, stamped_fill, stamped_drop, stamped_gone, stamped_moved, numbered_moved}
 use Rattle.records.proofs.Queues.{length_queue, tally_queue}
@@ -53,10 +53,10 @@ module _ {T : Type 0} {cs : List (Cell T)} {next stamps : ℕ} (h : Sound cs nex
 
   -- put into queue q
   module _ (q : ℕ) (near : q < 32) where
-    pub put_full : (x : T) → None ≡ position empty cs 0 → Puts le before q x (Err NoCell) before
+    pub put_full : (x : T) → None ≡ position empty cs → Puts le before q x (Err NoCell) before
     put_full x e = puts_refused before_formed q x NoCell (put_refused_cell before q near (unlimited (length cs) stamps q _) (omega (arith, live_here h le, none_empty cs e)))
 
-    module _ (i : ℕ) (e : Some i ≡ position empty cs 0) where
+    module _ (i : ℕ) (e : Some i ≡ position empty cs) where
       room : live before.state + 0 ≡ length cs → ⊥
       room a = omega (arith, a, live_here h le, (one_empty cs i e).2)
 
@@ -141,7 +141,7 @@ module _ {T : Type 0} {cs : List (Cell T)} {next stamps : ℕ} (h : Sound cs nex
   cancel_done k i r at a = along a (subst (λ n. After le (Cancels le before n (Ok r.queue)) (set cs i None) next stamps) (stamp_is k cs i r at) (cancelled i r at.1))
 
   pub cancel_none : (k : ℕ) → StampedAt k cs None → Cancels le before k (Err (NotQueued 0)) before
-  cancel_none k e = cancels_refused before_formed k (NotQueued 0) (sym (ap (found 0) (queue_none k (λ q. queue_of le q cs) (λ q. has_none stamp_of k (queue_of le q cs) (omega (arith, position_none (has_stamp k) cs 0 e, tally_queue le q k cs))))))
+  cancel_none k e = cancels_refused before_formed k (NotQueued 0) (sym (ap (found 0) (queue_none k (λ q. queue_of le q cs) (λ q. has_none stamp_of k (queue_of le q cs) (omega (arith, position_none (has_stamp k) cs e, tally_queue le q k cs))))))
 
   -- take
   pub take_none : (q : ℕ) → q < 32 → FrontAt le q cs None → Takes le before q (Ok None) before

@@ -1,11 +1,11 @@
 // An agenda in one slice: every question is one pass over the cells.
 #![tactic(auto)]
 
-ghost use Rattle.std.specs.Prelude.{◌≡◌, ◌<◌, ◌≤◌, map, length, slice_set};
+ghost use Rattle.std.specs.Prelude.{◌≡◌, ◌<◌, ◌≤◌, length, position, slice_set};
 ghost use Rattle.stores.specs.Meaning.{WellFormed, fresh_bare};
 ghost use Rattle.stores.specs.Refusals.{Tests};
 ghost use Rattle.stores.specs.declared.refusals.Unfit.TheVariants.{OutOfRange};
-ghost use Rattle.records.specs.Cells.{position, empty, StampedAt, FrontAt, queued, moved};
+ghost use Rattle.records.specs.Cells.{empty, StampedAt, FrontAt, queued};
 ghost use Rattle.table.specs.Tables.{meaning_of, SoundTable, Fit};
 ghost use Rattle.records.proofs.Standing.{formed};
 
@@ -58,7 +58,7 @@ fn write<T: Copy>(cells: &mut [Option<Record<T>>], i: usize, cell: Option<Record
 // These lend the slice: the checker covers no `&mut self` that lends its field as a `&[..]` itself.
 impl<'a, T: Ordered + Copy> Table<'a, T> {
     fn empty(&self) -> Option<usize>
-        ensures { result ≡ position empty self.now.cells.now 0 }
+        ensures { result ≡ position empty self.now.cells.now }
     {
         empty_cell(self.cells)
     }

@@ -1,20 +1,19 @@
 -- Digits in front of what is no digit.
 use Rattle.std.proofs.Common.{◌≡◌, ℕ, ◌+◌, ◌-◌, ◌*◌, ◌^◌, ◌<◌, min, ◌⊎◌, List, [], ◌∷◌, ◌++◌, map, length, get_or, take, drop, decimal, sym, refl, ap, ◌∙◌, subst, inl, inr, arith, take-append-drop, rules}
-use Rattle.std.specs.List.{fold, AllByRecursion}
+use Rattle.std.specs.List.{AllByRecursion}
+use Rattle.std.proofs.lemmas.List.{take_more}
 use Rattle.std.proofs.lemmas.Bool.{cases_eq}
 use Rattle.std.proofs.lemmas.Str.Parse.{IsNumeralModel, numerals_by_fold}
 use Rattle.std.proofs.lemmas.Fmt.{decimal_digit, decimal_nonempty, first_decimal, digits_decimal, digits_value-decimal, decimal-digits_value}
 use Rattle.scanner.specs.Numerals.{Digit, Numeral, read_on, value, told, Stop}
 
--- one digit more, where all that are too large are told as the largest
-abbrev pub step : ℕ → ℕ → ℕ
-step n c = min 4294967295 (n * 10 + (c - 48))
+read_on_push : (n : ℕ) (xs : List ℕ) (c : ℕ) → read_on n (xs ++ c ∷ []) ≡ read_on n xs * 10 + (c - 48)
+read_on_push n [] c = refl
+read_on_push n (x ∷ xs) c = read_on_push (n * 10 + (x - 48)) xs c
 
-pub told_by_steps : (ds : List ℕ) (n : ℕ) → fold step (min 4294967295 n) ds ≡ min 4294967295 (read_on n ds)
-told_by_steps [] n = refl
-told_by_steps (c ∷ cs) n =
-    let e : step (min 4294967295 n) c ≡ min 4294967295 (n * 10 + (c - 48)) = omega arith in
-    ap (λ m. fold step m cs) e ∙ told_by_steps cs (n * 10 + (c - 48))
+-- one digit more, where all that are too large are told as the largest
+pub told_more : (s : List ℕ) (i n : ℕ) → i < length s → n ≡ told (take i s) → min 4294967295 (n * 10 + (get_or s i 0 - 48)) ≡ told (take (i + 1) s)
+told_more s i n l e = rw (take_more s i 0 l, read_on_push 0 (take i s) (get_or s i 0)) (omega arith)
 
 -- digits up to what is none can be split off in one way only
 pub unique : (xs ys a b : List ℕ) → AllByRecursion Digit xs → AllByRecursion Digit ys → Stop a → Stop b → xs ++ a ≡ ys ++ b → (xs ≡ ys) × (a ≡ b)

@@ -1,7 +1,7 @@
 // Numerals as tokens: the number, and its digits as a part of the lent bytes.
 ghost use Rattle.scanner.specs.Numbers.{Numbered};
 
-use crate::numerals::{digit_count, told};
+use crate::numerals::read_digits;
 use crate::tokens::{Token, front};
 
 // A number as it was read: what is told of it, and its digits with what is behind them.
@@ -15,14 +15,12 @@ pub struct NumberToken<'a> {
 pub fn numeral(s: &[u8]) -> Option<NumberToken<'_>>
     ensures { Numbered s.entry result }
 {
-    let digits = front(s, digit_count(s));
+    let (count, value) = read_digits(s);
+    let digits = front(s, count);
     match digits.bytes {
         [] => None,
         // A zero in front of other digits is needless.
         [b'0', _, ..] => None,
-        bytes => Some(NumberToken {
-            value: told(bytes),
-            digits,
-        }),
+        _ => Some(NumberToken { value, digits }),
     }
 }

@@ -5,24 +5,26 @@ ghost use Rattle.scanner.specs.Numerals.{Digit, Stop, told};
 
 // The number with one digit more, or the largest of 32 bits.
 fn extended(n: u32, digit: u8) -> u32
+    requires { (48 ≤ digit) × (digit ≤ 57) }
     ensures { result ≡ min 4294967295 (n * 10 + (digit - 48)) }
 {
-    n.saturating_mul(10)
-        .saturating_add(u32::from(digit.saturating_sub(b'0')))
+    n.saturating_mul(10).saturating_add(u32::from(digit - b'0'))
 }
 
-// The number that the digits write, or the largest of 32 bits.
-pub fn told(digits: &[u8]) -> u32
-    ensures { result ≡ told digits.now }
+// The digits in front: how many they are, and the number that they write, or the largest of 32 bits. Lines are read
+// by it, so it goes over the digits once.
+pub fn read_digits(s: &[u8]) -> (usize, u32)
+    ensures within { result.0 ≤ length s.now }
+    ensures digits { AllByRecursion Digit (take result.0 s.now) }
+    ensures stop { Stop (drop result.0 s.now) }
+    ensures number { result.1 ≡ told (take result.0 s.now) }
 {
-    digits.iter().fold(0, |n, digit| extended(n, *digit))
-}
-
-// How many digits are in front.
-pub fn digit_count(s: &[u8]) -> usize
-    ensures within { result ≤ length s.now }
-    ensures digits { AllByRecursion Digit (take result s.now) }
-    ensures stop { Stop (drop result s.now) }
-{
-    s.iter().take_while(|byte| byte.is_ascii_digit()).count()
+    let mut number = 0;
+    for (count, byte) in s.iter().enumerate() {
+        if !byte.is_ascii_digit() {
+            return (count, number);
+        }
+        number = extended(number, *byte);
+    }
+    (s.len(), number)
 }

@@ -22,7 +22,7 @@ use Rattle.outcomes.specs.Simulation.{Control, Simulation, Earlier, Takes as Tak
 use Rattle.outcomes.specs.Outcomes.{Counted, Outcome}
 use Rattle.outcomes.proofs.Onwards.{outcome_onward, outcome_quiet, no_takes_more}
 use Rattle.outcomes.proofs.Sequences.{written_not}
-use Rattle.simulations.specs.Conditions.{IsStation, Fit}
+use Rattle.simulations.specs.Conditions.{IsStation}
 use Rattle.simulations.specs.Writes.{simulation}
 use Rattle.simulations.proofs.Writing.{written_kept, kept_counted}
 
@@ -69,7 +69,7 @@ module _ {T : Type 0} (le : T → T → Bool) (m n : Meaning T) (q : ℕ) (lt : 
 abbrev pub one_line : Taken
 one_line = record { events = 0; lines = 1 }
 
-module _ (k : ℕ) (d : Control) (m : Meaning Event) (l l2 : Meaning LineEntry) (ps : List Record) (lt : IsStation k) (h : Fit (simulation d m l ps)) where
+module _ (k : ℕ) (d : Control) (m : Meaning Event) (l l2 : Meaning LineEntry) (ps : List Record) (lt : IsStation k) where
   abbrev a : Simulation
   a = simulation d m l ps
 

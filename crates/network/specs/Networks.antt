@@ -7,8 +7,6 @@ use Rattle.elements.specs.Elements.{event_le}
 use Rattle.stores.specs.declared.refusals.Refusal.{Refusal}
 use Rattle.stores.specs.Promises.{Puts}
 use Rattle.stores.specs.Meaning.{Meaning}
-use Rattle.stores.specs.declared.refusals.Unfit.{Unfit}
-use Rattle.stores.specs.declared.refusals.Unfit.TheVariants.{NotFresh}
 use Rattle.machine.specs.declared.networks.Network.{Network}
 use Rattle.machine.specs.declared.forms.Form.TheVariants.{End as an-end}
 use Rattle.machine.specs.declared.forms.FormRefusal.{FormRefusal}
@@ -41,11 +39,6 @@ drafted d m l r = draft d.net.now m l r
 pub record Unused (m : Meaning Event) (l : Meaning LineEntry) : Type 0 where
   pub events : m.state.next ≡ 0
   pub lines : l.state.next ≡ 0
-
--- a draft can be made just over unused stores
-abbrev pub MakesDraft : Result (Unit {0}) Unfit → Meaning Event → Meaning LineEntry → Type 0
-MakesDraft (Ok u) m l = Unused m l
-MakesDraft (Err e) m l = (e ≡ NotFresh) × (Unused m l → ⊥)
 
 -- the event of a form was put, or the store's refusal of it is that of the form
 abbrev pub Announced : ℕ → EventKind → Meaning Event → Result (Unit {0}) FormRefusal → Meaning Event → Type 0

@@ -39,6 +39,8 @@ fn announce<E: Agenda<Item = Event>>(
     Ok(())
 }
 
+// The clauses of the four forms are alike. A word for them would take the form, the draft, both stores and the answer, and be
+// no shorter.
 impl<'a> Draft<'a> {
     // One station more, which is station k.
     fn add_station(&mut self, k: usize, station: Station)

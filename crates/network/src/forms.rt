@@ -3,7 +3,6 @@
 ghost use Rattle.std.specs.Prelude.{◌≡◌, ◌<◌, ◌≤◌, None};
 ghost use Rattle.machine.specs.declared.forms.Form.TheVariants.{Station as a-station, Order as an-order, Withdraw as a-withdrawal, Close as a-closing};
 ghost use Rattle.machine.specs.Network.{with_new_station, with_new_order};
-ghost use Rattle.machine.specs.Forms.{new_station, new_order};
 ghost use Rattle.simulations.specs.Calls.{ByAnswer};
 ghost use Rattle.simulations.specs.Conditions.{WhenSome, Fit};
 ghost use Rattle.simulations.specs.Drafts.{Forms};

@@ -41,9 +41,9 @@ pub record Unused (m : Meaning Event) (l : Meaning LineEntry) : Type 0 where
   pub lines : l.state.next ≡ 0
 
 -- the event of a form was put, or the store's refusal of it is that of the form
-abbrev pub Announced : ℕ → EventKind → Meaning Event → Result (Unit {0}) FormRefusal → Meaning Event → Type 0
-Announced t x m (Ok u) n = (k : ℕ) × Puts event_le m 0 (record { time = t; kind = x }) (Ok k) n
-Announced t x m (Err r) n = (f : Refusal) × (r ≡ Store f) × Puts event_le m 0 (record { time = t; kind = x }) (Err f) n
+abbrev pub Announcing : ℕ → EventKind → Meaning Event → Result (Unit {0}) FormRefusal → Meaning Event → Type 0
+Announcing t x m (Ok u) n = (k : ℕ) × Puts event_le m 0 (record { time = t; kind = x }) (Ok k) n
+Announcing t x m (Err r) n = (f : Refusal) × (r ≡ Store f) × Puts event_le m 0 (record { time = t; kind = x }) (Err f) n
 
 -- a running network with both stores and the lent places, of which so many are written
 abbrev pub running : Running → ℕ → Meaning Event → Meaning LineEntry → List Record → Simulation

@@ -7,7 +7,7 @@ ghost use Rattle.simulations.specs.Calls.{ByAnswer};
 ghost use Rattle.simulations.specs.Conditions.{WhenSome, Fit};
 ghost use Rattle.simulations.specs.Drafts.{Forms};
 ghost use Rattle.network.specs.Checks.{refusal_in};
-ghost use Rattle.network.specs.Networks.{drafted, Announced};
+ghost use Rattle.network.specs.Networks.{drafted, Announcing};
 
 use crate::Draft;
 use crate::checks::check;
@@ -31,7 +31,7 @@ fn announce<E: Agenda<Item = Event>>(
 ) -> Result<(), FormRefusal>
     requires sound { E.Store.sound events.old }
     ensures sound { E.Store.sound events.new }
-    ensures put { Announced at kind (E.Store.meaning events.old) result (E.Store.meaning events.new) }
+    ensures put { Announcing at kind (E.Store.meaning events.old) result (E.Store.meaning events.new) }
     ensures refused { ByAnswer result (λ _. Unit {0}) (events.new ≡ events.old) }
 {
     events.put(0, Event { time: at, kind })?;

@@ -17,7 +17,7 @@ use Rattle.simulations.specs.Conditions.{KindFit, NetworkFit, Fit}
 use Rattle.simulations.specs.Drafts.{draft, refused_at_once, Forms}
 use Rattle.simulations.proofs.Forming.{Announces, form_refused_at_once, form_accepted, form_put_refused, no_write, announced_only}
 use Rattle.network.specs.Checks.{at_once, refusal_in}
-use Rattle.network.specs.Networks.{Announced}
+use Rattle.network.specs.Networks.{Announcing}
 
 -- the check is the machine's
 same_check : (f : Form) (n : Network) (m : Meaning Event) (l : Meaning LineEntry) → refused_at_once f n m l ≡ at_once f n m.state.next
@@ -48,16 +48,16 @@ module _ (f : Form) (n : Network) (m : Meaning Event) (l : Meaning LineEntry) (h
 
     -- it puts an event
     module _ (then : Continuation) (write : Network → Network) (p : Announces then write) (at : ℕ) (kind : EventKind) (says : (v : Machine) → accept f v ≡ put_event (event_at at kind) then v) (fit : KindFit kind) (m2 : Meaning Event) where
-      pub store_takes : Announced at kind m (Ok tt) m2 → NetworkFit (write n) → (n2 : Network) → n2 ≡ write n → Forms f (draft n m l) (draft n2 m2 l) None
+      pub store_takes : Announcing at kind m (Ok tt) m2 → NetworkFit (write n) → (n2 : Network) → n2 ≡ write n → Forms f (draft n m l) (draft n2 m2 l) None
       store_takes a = form_accepted then write p n m l h f passes at kind says fit m2 a.0 a.1
 
-      pub store_refuses : (x : FormRefusal) → Announced at kind m (Err x) m2 → Forms f (draft n m l) (draft n m2 l) (Some x)
+      pub store_refuses : (x : FormRefusal) → Announcing at kind m (Err x) m2 → Forms f (draft n m l) (draft n m2 l) (Some x)
       store_refuses x a = subst (λ z. Forms f (draft n m l) (draft n m2 l) (Some z)) (sym a.1) (form_put_refused then write p n m l h f passes at kind says fit m2 a.0 a.2)
 
-      pub store_refuses_by : (x : FormRefusal) → Announced at kind m (Err x) m2 → (r : Result (Unit {0}) FormRefusal) → IsErrAnd r (λ e. e ≡ x) → Forms f (draft n m l) (draft n m2 l) (refusal_in r)
+      pub store_refuses_by : (x : FormRefusal) → Announcing at kind m (Err x) m2 → (r : Result (Unit {0}) FormRefusal) → IsErrAnd r (λ e. e ≡ x) → Forms f (draft n m l) (draft n m2 l) (refusal_in r)
       store_refuses_by x a r k = subst (Forms f (draft n m l) (draft n m2 l)) (sym (passed_on r x k)) (store_refuses x a)
 
     -- and does nothing else
-    pub announces : (at : ℕ) (kind : EventKind) → ((v : Machine) → accept f v ≡ put_event (event_at at kind) announced v) → KindFit kind → (m2 : Meaning Event) (r : Result (Unit {0}) FormRefusal) → Announced at kind m r m2 → Forms f (draft n m l) (draft n m2 l) (refusal_in r)
-    announces at kind says fit m2 (Ok t) a = store_takes announced no_write announced_only at kind says fit m2 a h.network n refl
-    announces at kind says fit m2 (Err x) a = store_refuses announced no_write announced_only at kind says fit m2 x a
+    pub only_announces : (at : ℕ) (kind : EventKind) → ((v : Machine) → accept f v ≡ put_event (event_at at kind) announced v) → KindFit kind → (m2 : Meaning Event) (r : Result (Unit {0}) FormRefusal) → Announcing at kind m r m2 → Forms f (draft n m l) (draft n m2 l) (refusal_in r)
+    only_announces at kind says fit m2 (Ok t) a = store_takes announced no_write announced_only at kind says fit m2 a h.network n refl
+    only_announces at kind says fit m2 (Err x) a = store_refuses announced no_write announced_only at kind says fit m2 x a

@@ -7,8 +7,6 @@ use Rattle.elements.specs.Elements.{event_le}
 use Rattle.stores.specs.declared.refusals.Refusal.{Refusal}
 use Rattle.stores.specs.Promises.{Puts}
 use Rattle.stores.specs.Meaning.{Meaning}
-use Rattle.stores.specs.declared.refusals.Unfit.{Unfit}
-use Rattle.stores.specs.declared.refusals.Unfit.TheVariants.{NotFresh}
 use Rattle.machine.specs.declared.networks.Network.{Network}
 use Rattle.machine.specs.declared.forms.Form.TheVariants.{End as an-end}
 use Rattle.machine.specs.declared.forms.FormRefusal.{FormRefusal}
@@ -42,15 +40,10 @@ pub record Unused (m : Meaning Event) (l : Meaning LineEntry) : Type 0 where
   pub events : m.state.next ≡ 0
   pub lines : l.state.next ≡ 0
 
--- a draft can be made just over unused stores
-abbrev pub MakesDraft : Result (Unit {0}) Unfit → Meaning Event → Meaning LineEntry → Type 0
-MakesDraft (Ok u) m l = Unused m l
-MakesDraft (Err e) m l = (e ≡ NotFresh) × (Unused m l → ⊥)
-
 -- the event of a form was put, or the store's refusal of it is that of the form
-abbrev pub Announced : ℕ → EventKind → Meaning Event → Result (Unit {0}) FormRefusal → Meaning Event → Type 0
-Announced t x m (Ok u) n = (k : ℕ) × Puts event_le m 0 (record { time = t; kind = x }) (Ok k) n
-Announced t x m (Err r) n = (f : Refusal) × (r ≡ Store f) × Puts event_le m 0 (record { time = t; kind = x }) (Err f) n
+abbrev pub Announcing : ℕ → EventKind → Meaning Event → Result (Unit {0}) FormRefusal → Meaning Event → Type 0
+Announcing t x m (Ok u) n = (k : ℕ) × Puts event_le m 0 (record { time = t; kind = x }) (Ok k) n
+Announcing t x m (Err r) n = (f : Refusal) × (r ≡ Store f) × Puts event_le m 0 (record { time = t; kind = x }) (Err f) n
 
 -- a running network with both stores and the lent places, of which so many are written
 abbrev pub running : Running → ℕ → Meaning Event → Meaning LineEntry → List Record → Simulation

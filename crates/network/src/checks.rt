@@ -3,7 +3,6 @@ ghost use Rattle.std.specs.Prelude.{◌≡◌, take};
 ghost use Rattle.std.specs.List.{list_all};
 ghost use Rattle.machine.specs.declared.networks.Station.{Station};
 ghost use Rattle.machine.specs.Forms.{next_declared, names_declared};
-ghost use Rattle.simulations.specs.Conditions.{NetworkFit};
 ghost use Rattle.network.specs.Checks.{refusal_in, placed, at_once};
 
 use machine::{Form, FormRefusal, Network};

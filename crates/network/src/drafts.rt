@@ -1,11 +1,13 @@
 // A network that takes forms.
-ghost use Rattle.std.specs.Prelude.{◌≡◌, ◌<◌, None};
+ghost use Rattle.std.specs.Prelude.{◌≡◌, None};
+ghost use Rattle.stores.specs.declared.refusals.Unfit.TheVariants.{NotFresh};
+ghost use Rattle.stores.specs.Refusals.{Tests};
 ghost use Rattle.machine.specs.Network.{cleared};
 ghost use Rattle.machine.specs.Machine.{bounds_of, start_machine};
 ghost use Rattle.outcomes.specs.Simulation.{machine_of};
 ghost use Rattle.simulations.specs.Conditions.{Fit};
 ghost use Rattle.simulations.specs.Drafts.{nothing};
-ghost use Rattle.network.specs.Networks.{drafted, Unused, MakesDraft};
+ghost use Rattle.network.specs.Networks.{drafted, Unused};
 
 use crate::Draft;
 use elements::{Event, LineEntry};
@@ -28,7 +30,7 @@ impl<'a> Draft<'a> {
         orders: &O,
     ) -> Result<(), Unfit>
         requires sound { (E.Store.sound events.now) × (O.Store.sound orders.now) }
-        ensures test { MakesDraft result (E.Store.meaning events.now) (O.Store.meaning orders.now) }
+        ensures test { Tests result NotFresh (Unused (E.Store.meaning events.now) (O.Store.meaning orders.now)) }
     {
         if events.issued() != 0 || orders.issued() != 0 {
             return Err(Unfit::NotFresh);

@@ -3,12 +3,11 @@
 ghost use Rattle.std.specs.Prelude.{◌≡◌, ◌<◌, ◌≤◌, None};
 ghost use Rattle.machine.specs.declared.forms.Form.TheVariants.{Station as a-station, Order as an-order, Withdraw as a-withdrawal, Close as a-closing};
 ghost use Rattle.machine.specs.Network.{with_new_station, with_new_order};
-ghost use Rattle.machine.specs.Forms.{new_station, new_order};
 ghost use Rattle.simulations.specs.Calls.{ByAnswer};
 ghost use Rattle.simulations.specs.Conditions.{WhenSome, Fit};
 ghost use Rattle.simulations.specs.Drafts.{Forms};
 ghost use Rattle.network.specs.Checks.{refusal_in};
-ghost use Rattle.network.specs.Networks.{drafted, Announced};
+ghost use Rattle.network.specs.Networks.{drafted, Announcing};
 
 use crate::Draft;
 use crate::checks::check;
@@ -32,13 +31,15 @@ fn announce<E: Agenda<Item = Event>>(
 ) -> Result<(), FormRefusal>
     requires sound { E.Store.sound events.old }
     ensures sound { E.Store.sound events.new }
-    ensures put { Announced at kind (E.Store.meaning events.old) result (E.Store.meaning events.new) }
+    ensures put { Announcing at kind (E.Store.meaning events.old) result (E.Store.meaning events.new) }
     ensures refused { ByAnswer result (λ _. Unit {0}) (events.new ≡ events.old) }
 {
     events.put(0, Event { time: at, kind })?;
     Ok(())
 }
 
+// The clauses of the four forms are alike. A word for them would take the form, the draft, both stores and the answer, and be
+// no shorter.
 impl<'a> Draft<'a> {
     // One station more, which is station k.
     fn add_station(&mut self, k: usize, station: Station)

@@ -1,5 +1,5 @@
 -- Following closings, entering a station, and starting the front of a line.
-use Rattle.std.proofs.Common.{◌≡◌, ℕ, zero, suc, ◌+◌, ◌-◌, ◌<◌, ◌≤◌, Bool, true, false, cond, List, Some, None, Ok, Err, Option, Result, sym, refl, ap, ◌∙◌, subst, arith}
+use Rattle.std.proofs.Common.{◌≡◌, ℕ, zero, suc, ◌+◌, ◌-◌, ◌<◌, ◌≤◌, Bool, true, false, cond, List, Some, None, Ok, Err, Option, Result, sym, refl, ap, ◌∙◌, arith}
 use Rattle.std.proofs.lemmas.Bool.{lt-ltb, le-ltb, lt-leb}
 use Rattle.elements.specs.declared.events.Event.{Event}
 use Rattle.elements.specs.declared.lines.LineEntry.{LineEntry}
@@ -22,9 +22,8 @@ use Rattle.outcomes.specs.Simulation.{Control, Simulation, Earlier, Takes as Tak
 use Rattle.outcomes.specs.Outcomes.{Counted, Outcome}
 use Rattle.outcomes.proofs.Onwards.{outcome_onward, outcome_quiet, no_takes_more}
 use Rattle.outcomes.proofs.Sequences.{written_not}
-use Rattle.simulations.specs.Conditions.{IsStation, Fit, Each, LineFit}
+use Rattle.simulations.specs.Conditions.{IsStation}
 use Rattle.simulations.specs.Writes.{simulation}
-use Rattle.simulations.proofs.Fitting.{each_take}
 use Rattle.simulations.proofs.Writing.{written_kept, kept_counted}
 
 pub follow_some : (left : ℕ) (n : Network) (r j : ℕ) → 0 < left → (station n r).into ≡ Some j → follow (left - 1) n j ≡ follow left n r
@@ -70,7 +69,7 @@ module _ {T : Type 0} (le : T → T → Bool) (m n : Meaning T) (q : ℕ) (lt : 
 abbrev pub one_line : Taken
 one_line = record { events = 0; lines = 1 }
 
-module _ (k : ℕ) (d : Control) (m : Meaning Event) (l l2 : Meaning LineEntry) (ps : List Record) (lt : IsStation k) (h : Fit (simulation d m l ps)) where
+module _ (k : ℕ) (d : Control) (m : Meaning Event) (l l2 : Meaning LineEntry) (ps : List Record) (lt : IsStation k) where
   abbrev a : Simulation
   a = simulation d m l ps
 
@@ -95,9 +94,6 @@ module _ (k : ℕ) (d : Control) (m : Meaning Event) (l l2 : Meaning LineEntry) 
       let q : l2.state ≡ take_after l.state k (Ok (front (list_of l.state k))) = p.after ∙ ap (λ z. take_after l.state k (Ok z)) (took line_le l l2 k lt o p) in
       ap (λ (s : State LineEntry). with_lines (with_cut (machine_of (and_takes t x) a) c) (record { state = s; bounds = bounds_of l2.fixed; taken = t.takes.lines + x.lines })) q
       ∙ ap (λ f. with_lines (with_cut (machine_of (and_takes t x) a) c) (record { state = take_after l.state k (Ok (front (list_of l.state k))); bounds = bounds_of f; taken = t.takes.lines + x.lines })) p.fixed
-
-  pub front_fit : (o : Option (Entry LineEntry)) → Takes line_le l k (Ok o) l2 → Fit b
-  front_fit o p = record { network = h.network; instant = h.instant; end = h.end; events = h.events; lines = subst (Each LineFit) (sym p.after) (each_take LineFit l.state k o h.lines) }
 
   one_taken : (e : Entry LineEntry) → Takes line_le l k (Ok (Some e)) l2 → (t : Earlier) (c : Option ℕ) → with_cut (machine_of (and_takes t one_line) b) c ≡ take_line k (with_cut (machine_of t a) c)
   one_taken e p t c =

@@ -1,12 +1,12 @@
 -- What calls need stays so.
-use Rattle.std.proofs.Common.{◌≡◌, ℕ, zero, suc, ◌+◌, ◌<◌, ◌≤◌, Bool, true, false, cond, eqb, List, [], ◌∷◌, get_or, set, Some, None, Ok, Err, Option, Result, ◌∙◌, subst, arith, length-set}
+use Rattle.std.proofs.Common.{◌≡◌, ℕ, zero, suc, ◌+◌, ◌<◌, ◌≤◌, Bool, true, false, cond, eqb, List, [], ◌∷◌, get_or, set, Some, Ok, Err, Result, ◌∙◌, subst, arith, length-set}
 use Rattle.std.specs.List.{AllByRecursion}
 use Rattle.elements.specs.declared.entries.Entry.{Entry}
 use Rattle.elements.specs.Order.{precedes_by, stamp_of}
 use Rattle.stores.specs.declared.refusals.Refusal.{Refusal}
 use Rattle.stores.specs.SortedLists.{merge, merge_at, without}
 use Rattle.stores.specs.Meaning.{State, list_of}
-use Rattle.stores.specs.Calls.{put_after, take_after, meld_after, cancel_after, rest}
+use Rattle.stores.specs.Calls.{put_after, meld_after, cancel_after}
 use Rattle.machine.specs.declared.networks.Network.{Network}
 use Rattle.machine.specs.declared.networks.Station.{Station}
 use Rattle.machine.specs.declared.networks.OrderState.{OrderState}
@@ -45,10 +45,6 @@ module _ {A : Type 0} (P : A → Type 0) where
   all_without key k (x ∷ xs) h = without_by (eqb (key x) k) x xs (without key k xs) h.0 h.1 (all_without key k xs h.1)
 
 module _ {T : Type 0} (P : Entry T → Type 0) where
-  all_rest : (xs : List (Entry T)) → AllByRecursion P xs → AllByRecursion P (rest xs)
-  all_rest [] h = tt
-  all_rest (x ∷ xs) h = h.1
-
   pub each_at : (s : State T) (q : ℕ) → Each P s → AllByRecursion P (list_of s q)
   each_at s q h = all_get (AllByRecursion P) s.lists q [] h.entries tt
 
@@ -58,10 +54,6 @@ module _ {T : Type 0} (P : Entry T → Type 0) where
   pub each_put : (le : T → T → Bool) (s : State T) (q : ℕ) (x : T) (r : Result ℕ Refusal) → ((n : ℕ) → P (record { element = x; stamp = n })) → Each P s → Each P (put_after le s q x r)
   each_put le s q x (Err f) p h = h
   each_put le s q x (Ok n) p h = each_with s q (n + 1) _ h (all_merge P (precedes_by le) (record { element = x; stamp = n } ∷ []) (list_of s q) (p n, tt) (each_at s q h))
-
-  pub each_take : (s : State T) (q : ℕ) (o : Option (Entry T)) → Each P s → Each P (take_after s q (Ok o))
-  each_take s q None h = h
-  each_take s q (Some e) h = each_with s q s.next _ h (all_rest (list_of s q) (each_at s q h))
 
   pub each_meld : (le : T → T → Bool) (s : State T) (a b : ℕ) (r : Result ℕ Refusal) → Each P s → Each P (meld_after le s a b r)
   each_meld le s a b (Err f) h = h

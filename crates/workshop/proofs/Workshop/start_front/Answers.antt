@@ -1,6 +1,6 @@
-use Rattle.std.proofs.Common.{arith}
+use Rattle.std.proofs.Common.{arith, rules}
 use Rattle.elements.specs.Elements.{line_le}
-use Rattle.simulations.proofs.Entering.{front_fit, front_starts, front_none}
+use Rattle.simulations.proofs.Entering.{front_starts, front_none}
 use Rattle.workshop.proofs.Fronts.{took_front}
 use Rattle.workshop.proofs.Workshop.start_front.Goals as goal
 
@@ -8,10 +8,10 @@ pub returns-in-Some-clause-call : goal.returns-in-Some-clause-call
 returns-in-Some-clause-call g c =
     let r = c.requires in
     let s = rw c.new.ensures at c.start.ensures.call in
-    record { fit = s.fit; few = s.few; outcome = front_starts _ _ _ _ _ _ r.declared r.ready.fit c.in-Some.entry _ (took_front line_le _ _ _ _ r.declared c.take.ensures.effect _ _ _ c.ok.ensures.value c.flatten-front.ensures c.in-Some.is) s.outcome }
+    record { fit = s.fit; few = s.few; outcome = front_starts _ _ _ _ _ _ r.declared c.in-Some.entry _ (took_front line_le _ _ _ _ r.declared c.take.ensures.effect _ _ _ c.ok.ensures.value c.flatten-front.ensures c.in-Some.is) s.outcome }
 
 pub returns-in_default-clause-call : goal.returns-in_default-clause-call
 returns-in_default-clause-call g c =
     let r = c.requires in
     let p = took_front line_le _ _ _ _ r.declared c.take.ensures.effect _ _ _ c.ok.ensures.value c.flatten-front.ensures c.in_default.is in
-    record { fit = front_fit _ _ _ _ _ _ r.declared r.ready.fit _ p; few = omega arith; outcome = front_none _ _ _ _ _ _ r.declared r.ready.fit p }
+    record { fit = search rules; few = omega arith; outcome = front_none _ _ _ _ _ _ r.declared p }

@@ -1,6 +1,6 @@
 -- Parts of lent bytes, by where they were cut off.
-use Rattle.std.proofs.Common.{◌≡◌, ℕ, ◌+◌, ◌-◌, ◌≤◌, List, length, take, drop, ap, ◌∙◌, arith, Bor}
-use Rattle.std.proofs.lemmas.List.{take_all, length-drop, length-take-le}
+use Rattle.std.proofs.Common.{◌≡◌, ℕ, ◌+◌, ◌-◌, ◌≤◌, List, length, take, drop, ◌∙◌, arith, Bor}
+use Rattle.std.proofs.lemmas.List.{take_all, length-drop}
 use Rattle.scanner.specs.Tokens.{Part}
 
 -- from j up to e
@@ -17,7 +17,3 @@ part_cut lent part i n j e p q within is block place =
 -- what a part to the end has
 pub part_behind : (lent part : Bor (List ℕ)) (i : ℕ) → Part lent i (length lent.now - i) part → part.now ≡ drop i lent.now
 part_behind lent part i p = p.is ∙ take_all (length lent.now - i) (drop i lent.now) (omega (arith, length-drop i lent.now))
-
--- how long the first n bytes are
-pub part_length : (lent part : Bor (List ℕ)) (n : ℕ) → Part lent 0 n part → length part.now ≡ n
-part_length lent part n p = let w : n ≤ length lent.now = omega (arith, p.within) in ap length p.is ∙ length-take-le n lent.now w

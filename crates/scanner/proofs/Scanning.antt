@@ -58,9 +58,6 @@ module _ {t line later rest ns : List ℕ} {k : ℕ} (s : Sofar t line later res
           is = let e = sym rest-is ∙ fits fs f in cc;
         }
 
-    byte_missing : ((behind : List ℕ) → rest ≡ c ∷ behind → ⊥) → clear t ≡ true → (es : List (List ℕ)) → Filled t line es → ⊥
-    byte_missing none h es f = let r = s.only h es f in none (fill after r.0) (fits r.0 r.1)
-
   -- a gap
   module _ (c : ℕ) (after : List ℕ) (later-is : later ≡ c ∷ after) (g : gap c ≡ true) where
     -- what still fits begins with a numeral
@@ -104,10 +101,6 @@ module _ {t line later rest ns : List ℕ} {k : ℕ} (s : Sofar t line later res
         let p = fits_gap h r.0 r.1 in
         none p.0 (fill after p.1) p.2 p.4 p.5
 
-    -- there are more gaps than places for numbers
-    room_missing : (n : ℕ) → gaps t ≡ n → n ≤ k → ⊥
-    room_missing n e l = omega (arith, s.left, ap gaps later-is, gaps_next c after g)
-
   -- the template is at its end
   module _ (done : later ≡ []) where
     line_read : rest ≡ [] → length ns ≡ k → Scans k t line (Some ns)
@@ -120,12 +113,6 @@ module _ {t line later rest ns : List ℕ} {k : ℕ} (s : Sofar t line later res
       },
       sym (take_all k ns (omega arith)) ∙ s.gives,
     )
-
-    line_longer : (rest ≡ [] → ⊥) → clear t ≡ true → (es : List (List ℕ)) → Filled t line es → ⊥
-    line_longer some h es f = let r = s.only h es f in some (r.1.is ∙ ap (λ l. fill l r.0) done)
-
-    gaps_missing : (n : ℕ) → gaps t ≡ n → (k ≡ n → ⊥) → ⊥
-    gaps_missing n e ne = ne (omega (arith, s.left, ap gaps done))
 
 -- i bytes of the template are read, and `rest` is to come of the line
 module _ (t line : List ℕ) (i : ℕ) (rest ns : List ℕ) (k : ℕ) (s : Sofar t line (drop i t) rest ns k) where
@@ -150,9 +137,3 @@ module _ (t line : List ℕ) (i : ℕ) (rest ns : List ℕ) (k : ℕ) (s : Sofar
   module _ (done : length t ≤ i) where
     pub all_read : rest ≡ [] → length ns ≡ k → Scans k t line (Some ns)
     all_read = line_read s (drop_all i t done)
-
-    pub more_left : (n : ℕ) → (rest ≡ [] → ⊥) → Scans n t line None
-    more_left n some _ c = line_longer s (drop_all i t done) some c
-
-    pub fewer_gaps : (n : ℕ) → (k ≡ n → ⊥) → Scans n t line None
-    fewer_gaps n ne e c ds f = gaps_missing s (drop_all i t done) n e ne

@@ -3,7 +3,7 @@ ghost use Rattle.std.specs.Prelude.{◌≡◌, ◌+◌, ◌<◌, ◌≤◌, leng
 ghost use Rattle.machine.specs.declared.records.RecordKind.TheVariants.{Finish};
 ghost use Rattle.machine.specs.Step.{leave, finish};
 ghost use Rattle.simulations.specs.Calls.{Call};
-ghost use Rattle.simulations.specs.Conditions.{IsOrder, IsStation};
+ghost use Rattle.simulations.specs.Conditions.{IsStation};
 ghost use Rattle.simulations.specs.Writes.{noted, vacated};
 ghost use Rattle.workshop.specs.Workshop.{control, simulated, Sound, Ready, left, Same};
 
@@ -24,7 +24,6 @@ impl<E: Agenda<Item = Event>, O: Agenda<Item = LineEntry>> Workshop<'_, E, O> {
 
     // The finished order in hand goes on from station k.
     fn leave(&mut self, hand: InHand, k: u8)
-        requires order { IsOrder hand.order }
         requires declared { IsStation k }
         requires place { self.old.used < length self.old.places.now }
         requires ready { Ready E.Store.sound O.Store.sound E.Store.meaning O.Store.meaning self.old }
@@ -41,7 +40,6 @@ impl<E: Agenda<Item = Event>, O: Agenda<Item = LineEntry>> Workshop<'_, E, O> {
     // The order in hand has finished at station k: the line's front starts there, then it goes on; or it is stranded where that
     // start ended the run.
     pub(crate) fn finish(&mut self, hand: InHand, k: u8)
-        requires order { IsOrder hand.order }
         requires declared { IsStation k }
         requires places { self.old.used + 3 ≤ length self.old.places.now }
         requires ready { Ready E.Store.sound O.Store.sound E.Store.meaning O.Store.meaning self.old }

@@ -3,7 +3,7 @@ ghost use Rattle.std.specs.Prelude.{◌≡◌, ◌<◌, length};
 ghost use Rattle.machine.specs.Network.{station, open_station};
 ghost use Rattle.machine.specs.Step.{at_limit, start, wait, enter, start_front};
 ghost use Rattle.simulations.specs.Calls.{Call};
-ghost use Rattle.simulations.specs.Conditions.{IsOrder, IsStation, NetworkFit};
+ghost use Rattle.simulations.specs.Conditions.{IsStation, NetworkFit};
 ghost use Rattle.workshop.specs.Workshop.{simulated, Sound, Ready, Same};
 
 use crate::{InHand, Workshop};
@@ -38,7 +38,6 @@ fn open_station(net: &Network, k: u8) -> u8
 impl<E: Agenda<Item = Event>, O: Agenda<Item = LineEntry>> Workshop<'_, E, O> {
     // Starts the order in hand at station k, or strands it where the event store refuses its finish.
     fn start(&mut self, hand: InHand, k: u8)
-        requires order { IsOrder hand.order }
         requires declared { IsStation k }
         requires place { self.old.used < length self.old.places.now }
         requires bench { (station self.old.net.now k).busy < 8 }
@@ -67,7 +66,6 @@ impl<E: Agenda<Item = Event>, O: Agenda<Item = LineEntry>> Workshop<'_, E, O> {
     // Puts the order in hand in line k; at the line's limit it goes away, and where the order store refuses otherwise it is
     // stranded.
     fn wait(&mut self, hand: InHand, k: u8)
-        requires order { IsOrder hand.order }
         requires declared { IsStation k }
         requires place { self.old.used < length self.old.places.now }
         requires ready { Ready E.Store.sound O.Store.sound E.Store.meaning O.Store.meaning self.old }
@@ -96,7 +94,6 @@ impl<E: Agenda<Item = Event>, O: Agenda<Item = LineEntry>> Workshop<'_, E, O> {
 
     // The order in hand enters station k.
     pub(crate) fn enter(&mut self, hand: InHand, k: u8)
-        requires order { IsOrder hand.order }
         requires declared { IsStation k }
         requires place { self.old.used < length self.old.places.now }
         requires ready { Ready E.Store.sound O.Store.sound E.Store.meaning O.Store.meaning self.old }

@@ -2,11 +2,11 @@
 ghost use Rattle.std.specs.Prelude.{◌≡◌, ◌<◌, true, false, length};
 ghost use Rattle.machine.specs.declared.records.RecordKind.TheVariants.{Start, Wait, Away, Done};
 ghost use Rattle.machine.specs.Network.{station, marked};
-ghost use Rattle.simulations.specs.Conditions.{IsOrder, IsStation};
+ghost use Rattle.simulations.specs.Conditions.{IsOrder};
 ghost use Rattle.simulations.specs.Writes.{with_network, one_more, noted, failed, started, queued, sent_away, completed, stranded};
 ghost use Rattle.workshop.specs.Workshop.{control, left};
 
-use crate::Workshop;
+use crate::{StationNumber, Workshop};
 use elements::{Event, LineEntry};
 use machine::{Fault, OrderState, Record, RecordKind, StoreName};
 use stores::{Agenda, Refusal};
@@ -72,31 +72,46 @@ impl<E: Agenda<Item = Event>, O: Agenda<Item = LineEntry>> Workshop<'_, E, O> {
     }
 
     // The order in hand is in service at station k.
-    pub(crate) fn begin(&mut self, hand: InHand, k: u8, stamp: u16)
-        requires range { (IsStation k) × (self.old.used < length self.old.places.now) × ((station self.old.net.now k).busy < 8) }
-        ensures { self.new ≡ left self.old (started hand.order k stamp (control self.old)) (noted (Start hand.order k) (control self.old) self.old.places.now) }
+    pub(crate) fn begin(&mut self, hand: InHand, k: StationNumber, stamp: u16)
+        requires range { (self.old.used < length self.old.places.now) × ((station self.old.net.now k.number).busy < 8) }
+        ensures { self.new ≡ left self.old (started hand.order k.number stamp (control self.old)) (noted (Start hand.order k.number) (control self.old) self.old.places.now) }
     {
-        let order = self.put_down(hand, OrderState::InService { station: k, stamp });
-        self.net.stations[k as usize].busy += 1;
-        self.note(RecordKind::Start { order, station: k });
+        let order = self.put_down(
+            hand,
+            OrderState::InService {
+                station: k.number,
+                stamp,
+            },
+        );
+        self.net.stations[k.number as usize].busy += 1;
+        self.note(RecordKind::Start {
+            order,
+            station: k.number,
+        });
     }
 
     // The order in hand waits in line k.
-    pub(crate) fn line_up(&mut self, hand: InHand, k: u8, stamp: u16)
+    pub(crate) fn line_up(&mut self, hand: InHand, k: StationNumber, stamp: u16)
         requires place { self.old.used < length self.old.places.now }
-        ensures { self.new ≡ left self.old (queued hand.order stamp (control self.old)) (noted (Wait hand.order k) (control self.old) self.old.places.now) }
+        ensures { self.new ≡ left self.old (queued hand.order stamp (control self.old)) (noted (Wait hand.order k.number) (control self.old) self.old.places.now) }
     {
         let order = self.put_down(hand, OrderState::Waiting { stamp });
-        self.note(RecordKind::Wait { order, station: k });
+        self.note(RecordKind::Wait {
+            order,
+            station: k.number,
+        });
     }
 
     // The order in hand goes away from line k.
-    pub(crate) fn send_away(&mut self, hand: InHand, k: u8)
+    pub(crate) fn send_away(&mut self, hand: InHand, k: StationNumber)
         requires place { self.old.used < length self.old.places.now }
-        ensures { self.new ≡ left self.old (sent_away hand.order (control self.old)) (noted (Away hand.order k) (control self.old) self.old.places.now) }
+        ensures { self.new ≡ left self.old (sent_away hand.order (control self.old)) (noted (Away hand.order k.number) (control self.old) self.old.places.now) }
     {
         let order = self.put_down(hand, OrderState::Away);
-        self.note(RecordKind::Away { order, station: k });
+        self.note(RecordKind::Away {
+            order,
+            station: k.number,
+        });
     }
 
     // The order in hand is done.

@@ -4,48 +4,47 @@ ghost use Rattle.machine.specs.declared.records.RecordKind.TheVariants.{Close};
 ghost use Rattle.machine.specs.Step.{stays_open, fill, close};
 ghost use Rattle.outcomes.specs.Simulation.{Simulation};
 ghost use Rattle.simulations.specs.Calls.{Call};
-ghost use Rattle.simulations.specs.Conditions.{IsStation};
 ghost use Rattle.simulations.specs.Writes.{noted, shut};
 ghost use Rattle.workshop.specs.Workshop.{control, simulated, Sound, Ready, left, Same};
 
-use crate::Workshop;
+use crate::{StationNumber, Workshop};
 use elements::{Event, LineEntry};
 use machine::{Network, RecordKind};
 use stores::Agenda;
 
 // Whether a closing of station k into station j changes nothing: they are one, or either is closed.
-fn stays_open(net: &Network, k: u8, j: u8) -> bool
-    requires range { (IsStation k) × (IsStation j) }
-    ensures answer { result ≡ stays_open k j net.now }
+fn stays_open(net: &Network, k: StationNumber, j: StationNumber) -> bool
+    ensures answer { result ≡ stays_open k.number j.number net.now }
 {
-    k == j || net.stations[k as usize].into.is_some() || net.stations[j as usize].into.is_some()
+    k.number == j.number
+        || net.stations[k.number as usize].into.is_some()
+        || net.stations[j.number as usize].into.is_some()
 }
 
 impl<E: Agenda<Item = Event>, O: Agenda<Item = LineEntry>> Workshop<'_, E, O> {
     // Station k is closed into station j.
-    fn shut(&mut self, k: u8, j: u8, moved: u16)
-        requires range { (IsStation k) × (self.old.used < length self.old.places.now) }
-        ensures { self.new ≡ left self.old (shut k j (control self.old)) (noted (Close k j moved) (control self.old) self.old.places.now) }
+    fn shut(&mut self, k: StationNumber, j: StationNumber, moved: u16)
+        requires place { self.old.used < length self.old.places.now }
+        ensures { self.new ≡ left self.old (shut k.number j.number (control self.old)) (noted (Close k.number j.number moved) (control self.old) self.old.places.now) }
     {
-        self.net.stations[k as usize].into = Some(j);
+        self.net.stations[k.number as usize].into = Some(j.number);
         self.note(RecordKind::Close {
-            station: k,
-            into: j,
+            station: k.number,
+            into: j.number,
             moved,
         });
     }
 
     // One more turn of filling the benches of station j; after a fault there is none.
-    fn fill_turn(&mut self, j: u8)
-        requires declared { IsStation j }
+    fn fill_turn(&mut self, j: StationNumber)
         requires place { self.old.used < length self.old.places.now }
         requires ready { Ready E.Store.sound O.Store.sound E.Store.meaning O.Store.meaning self.old }
         ensures sound { Sound E.Store.sound O.Store.sound self.new }
-        ensures turn { (n : ℕ) (a : Simulation) → Call (fill n j) n a (simulated E.Store.meaning O.Store.meaning self.old) → Call (fill (n + 1) j) (n + 1) a (simulated E.Store.meaning O.Store.meaning self.new) }
+        ensures turn { (n : ℕ) (a : Simulation) → Call (fill n j.number) n a (simulated E.Store.meaning O.Store.meaning self.old) → Call (fill (n + 1) j.number) (n + 1) a (simulated E.Store.meaning O.Store.meaning self.new) }
         ensures same { Same self.old self.new }
     {
         if self.run.fault.is_none() {
-            let station = self.net.stations[j as usize];
+            let station = self.net.stations[j.number as usize];
             if station.busy < station.benches {
                 self.start_front(j);
             }
@@ -53,12 +52,11 @@ impl<E: Agenda<Item = Event>, O: Agenda<Item = LineEntry>> Workshop<'_, E, O> {
     }
 
     // While station j has a free bench and its line a front, that starts. A station has at most 8 benches.
-    fn fill(&mut self, j: u8)
-        requires declared { IsStation j }
+    fn fill(&mut self, j: StationNumber)
         requires places { self.old.used + 8 ≤ length self.old.places.now }
         requires ready { Ready E.Store.sound O.Store.sound E.Store.meaning O.Store.meaning self.old }
         ensures sound { Sound E.Store.sound O.Store.sound self.new }
-        ensures call { Call (fill 8 j) 8 (simulated E.Store.meaning O.Store.meaning self.old) (simulated E.Store.meaning O.Store.meaning self.new) }
+        ensures call { Call (fill 8 j.number) 8 (simulated E.Store.meaning O.Store.meaning self.old) (simulated E.Store.meaning O.Store.meaning self.new) }
         ensures same { Same self.old self.new }
     {
         'fill: for _turn in 0..8u8 {
@@ -67,21 +65,19 @@ impl<E: Agenda<Item = Event>, O: Agenda<Item = LineEntry>> Workshop<'_, E, O> {
     }
 
     // Station k closes into station j: its line melds into the other's, whose free benches are filled.
-    pub(crate) fn close(&mut self, k: u8, j: u8)
-        requires declared { IsStation k }
-        requires second { IsStation j }
+    pub(crate) fn close(&mut self, k: StationNumber, j: StationNumber)
         requires places { self.old.used + 9 ≤ length self.old.places.now }
         requires ready { Ready E.Store.sound O.Store.sound E.Store.meaning O.Store.meaning self.old }
         ensures sound { Sound E.Store.sound O.Store.sound self.new }
-        ensures call { Call (close k j) 9 (simulated E.Store.meaning O.Store.meaning self.old) (simulated E.Store.meaning O.Store.meaning self.new) }
+        ensures call { Call (close k.number j.number) 9 (simulated E.Store.meaning O.Store.meaning self.old) (simulated E.Store.meaning O.Store.meaning self.new) }
         ensures same { Same self.old self.new }
     {
         if stays_open(self.net, k, j) {
             self.note(RecordKind::Kept {
-                station: k,
-                into: j,
+                station: k.number,
+                into: j.number,
             });
-        } else if let Ok(moved) = self.orders.meld(j, k) {
+        } else if let Ok(moved) = self.orders.meld(j.number, k.number) {
             self.shut(k, j, moved);
             self.fill(j);
         }

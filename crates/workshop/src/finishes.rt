@@ -3,50 +3,48 @@ ghost use Rattle.std.specs.Prelude.{◌≡◌, ◌+◌, ◌<◌, ◌≤◌, leng
 ghost use Rattle.machine.specs.declared.records.RecordKind.TheVariants.{Finish};
 ghost use Rattle.machine.specs.Step.{leave, finish};
 ghost use Rattle.simulations.specs.Calls.{Call};
-ghost use Rattle.simulations.specs.Conditions.{IsOrder, IsStation};
 ghost use Rattle.simulations.specs.Writes.{noted, vacated};
 ghost use Rattle.workshop.specs.Workshop.{control, simulated, Sound, Ready, left, Same};
 
-use crate::{InHand, Workshop};
+use crate::{InHand, StationNumber, Workshop};
 use elements::{Event, LineEntry};
 use machine::RecordKind;
 use stores::Agenda;
 
 impl<E: Agenda<Item = Event>, O: Agenda<Item = LineEntry>> Workshop<'_, E, O> {
     // The order has finished, and a bench of station k is free.
-    fn vacate(&mut self, order: u16, k: u8)
-        requires range { (IsStation k) × (self.old.used < length self.old.places.now) }
-        ensures { self.new ≡ left self.old (vacated k (control self.old)) (noted (Finish order k) (control self.old) self.old.places.now) }
+    fn vacate(&mut self, order: u16, k: StationNumber)
+        requires place { self.old.used < length self.old.places.now }
+        ensures { self.new ≡ left self.old (vacated k.number (control self.old)) (noted (Finish order k.number) (control self.old) self.old.places.now) }
     {
-        self.note(RecordKind::Finish { order, station: k });
-        self.net.stations[k as usize].free_bench();
+        self.note(RecordKind::Finish {
+            order,
+            station: k.number,
+        });
+        self.net.stations[k.number as usize].free_bench();
     }
 
     // The finished order in hand goes on from station k.
-    fn leave(&mut self, hand: InHand, k: u8)
-        requires order { IsOrder hand.order }
-        requires declared { IsStation k }
+    fn leave(&mut self, hand: InHand, k: StationNumber)
         requires place { self.old.used < length self.old.places.now }
         requires ready { Ready E.Store.sound O.Store.sound E.Store.meaning O.Store.meaning self.old }
         ensures sound { Sound E.Store.sound O.Store.sound self.new }
-        ensures call { Call (leave hand.order k) 1 (simulated E.Store.meaning O.Store.meaning self.old) (simulated E.Store.meaning O.Store.meaning self.new) }
+        ensures call { Call (leave hand.order k.number) 1 (simulated E.Store.meaning O.Store.meaning self.old) (simulated E.Store.meaning O.Store.meaning self.new) }
         ensures same { Same self.old self.new }
     {
-        match self.net.stations[k as usize].next {
-            Some(j) => self.enter(hand, j),
+        match self.net.stations[k.number as usize].next {
+            Some(j) => self.enter(hand, StationNumber::new(j)),
             None => self.complete(hand),
         }
     }
 
     // The order in hand has finished at station k: the line's front starts there, then it goes on; or it is stranded where that
     // start ended the run.
-    pub(crate) fn finish(&mut self, hand: InHand, k: u8)
-        requires order { IsOrder hand.order }
-        requires declared { IsStation k }
+    pub(crate) fn finish(&mut self, hand: InHand, k: StationNumber)
         requires places { self.old.used + 3 ≤ length self.old.places.now }
         requires ready { Ready E.Store.sound O.Store.sound E.Store.meaning O.Store.meaning self.old }
         ensures sound { Sound E.Store.sound O.Store.sound self.new }
-        ensures call { Call (finish hand.order k) 3 (simulated E.Store.meaning O.Store.meaning self.old) (simulated E.Store.meaning O.Store.meaning self.new) }
+        ensures call { Call (finish hand.order k.number) 3 (simulated E.Store.meaning O.Store.meaning self.old) (simulated E.Store.meaning O.Store.meaning self.new) }
         ensures same { Same self.old self.new }
     {
         self.vacate(hand.order, k);

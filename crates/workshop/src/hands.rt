@@ -2,11 +2,11 @@
 ghost use Rattle.std.specs.Prelude.{◌≡◌, ◌<◌, true, false, length};
 ghost use Rattle.machine.specs.declared.records.RecordKind.TheVariants.{Start, Wait, Away, Done};
 ghost use Rattle.machine.specs.Network.{station, marked};
-ghost use Rattle.simulations.specs.Conditions.{IsOrder, IsStation};
+ghost use Rattle.simulations.specs.Conditions.{IsOrder};
 ghost use Rattle.simulations.specs.Writes.{with_network, one_more, noted, failed, started, queued, sent_away, completed, stranded};
 ghost use Rattle.workshop.specs.Workshop.{control, left};
 
-use crate::Workshop;
+use crate::{StationNumber, Workshop};
 use elements::{Event, LineEntry};
 use machine::{Fault, OrderState, Record, RecordKind, StoreName};
 use stores::{Agenda, Refusal};
@@ -17,6 +17,7 @@ use stores::{Agenda, Refusal};
 pub(crate) struct InHand {
     pub(crate) order: u16,
     spent: bool,
+    ghost known: { IsOrder order },
 }
 
 impl Drop for InHand {
@@ -29,7 +30,9 @@ impl Drop for InHand {
 
 impl InHand {
     pub(crate) fn new(order: u16) -> InHand
-        ensures { result ≡ record { order = order; spent = false } }
+        requires { IsOrder order }
+        ensures order { result.order ≡ order }
+        ensures unspent { result.spent ≡ false }
     {
         InHand {
             order,
@@ -60,7 +63,6 @@ impl<E: Agenda<Item = Event>, O: Agenda<Item = LineEntry>> Workshop<'_, E, O> {
 
     // The order in hand is put down in that state; the answer is its number.
     fn put_down(&mut self, hand: InHand, state: OrderState) -> u16
-        requires order { IsOrder hand.order }
         ensures answer { result ≡ hand.order }
         ensures left { self.new ≡ left self.old (with_network (control self.old) (marked hand.order state self.old.net.now)) self.old.places.now }
     {
@@ -70,36 +72,51 @@ impl<E: Agenda<Item = Event>, O: Agenda<Item = LineEntry>> Workshop<'_, E, O> {
     }
 
     // The order in hand is in service at station k.
-    pub(crate) fn begin(&mut self, hand: InHand, k: u8, stamp: u16)
-        requires range { (IsOrder hand.order) × (IsStation k) × (self.old.used < length self.old.places.now) × ((station self.old.net.now k).busy < 8) }
-        ensures { self.new ≡ left self.old (started hand.order k stamp (control self.old)) (noted (Start hand.order k) (control self.old) self.old.places.now) }
+    pub(crate) fn begin(&mut self, hand: InHand, k: StationNumber, stamp: u16)
+        requires range { (self.old.used < length self.old.places.now) × ((station self.old.net.now k.number).busy < 8) }
+        ensures { self.new ≡ left self.old (started hand.order k.number stamp (control self.old)) (noted (Start hand.order k.number) (control self.old) self.old.places.now) }
     {
-        let order = self.put_down(hand, OrderState::InService { station: k, stamp });
-        self.net.stations[k as usize].busy += 1;
-        self.note(RecordKind::Start { order, station: k });
+        let order = self.put_down(
+            hand,
+            OrderState::InService {
+                station: k.number,
+                stamp,
+            },
+        );
+        self.net.stations[k.number as usize].busy += 1;
+        self.note(RecordKind::Start {
+            order,
+            station: k.number,
+        });
     }
 
     // The order in hand waits in line k.
-    pub(crate) fn line_up(&mut self, hand: InHand, k: u8, stamp: u16)
-        requires range { (IsOrder hand.order) × (self.old.used < length self.old.places.now) }
-        ensures { self.new ≡ left self.old (queued hand.order stamp (control self.old)) (noted (Wait hand.order k) (control self.old) self.old.places.now) }
+    pub(crate) fn line_up(&mut self, hand: InHand, k: StationNumber, stamp: u16)
+        requires place { self.old.used < length self.old.places.now }
+        ensures { self.new ≡ left self.old (queued hand.order stamp (control self.old)) (noted (Wait hand.order k.number) (control self.old) self.old.places.now) }
     {
         let order = self.put_down(hand, OrderState::Waiting { stamp });
-        self.note(RecordKind::Wait { order, station: k });
+        self.note(RecordKind::Wait {
+            order,
+            station: k.number,
+        });
     }
 
     // The order in hand goes away from line k.
-    pub(crate) fn send_away(&mut self, hand: InHand, k: u8)
-        requires range { (IsOrder hand.order) × (self.old.used < length self.old.places.now) }
-        ensures { self.new ≡ left self.old (sent_away hand.order (control self.old)) (noted (Away hand.order k) (control self.old) self.old.places.now) }
+    pub(crate) fn send_away(&mut self, hand: InHand, k: StationNumber)
+        requires place { self.old.used < length self.old.places.now }
+        ensures { self.new ≡ left self.old (sent_away hand.order (control self.old)) (noted (Away hand.order k.number) (control self.old) self.old.places.now) }
     {
         let order = self.put_down(hand, OrderState::Away);
-        self.note(RecordKind::Away { order, station: k });
+        self.note(RecordKind::Away {
+            order,
+            station: k.number,
+        });
     }
 
     // The order in hand is done.
     pub(crate) fn complete(&mut self, hand: InHand)
-        requires range { (IsOrder hand.order) × (self.old.used < length self.old.places.now) }
+        requires place { self.old.used < length self.old.places.now }
         ensures { self.new ≡ left self.old (completed hand.order (control self.old)) (noted (Done hand.order) (control self.old) self.old.places.now) }
     {
         let order = self.put_down(hand, OrderState::Done);
@@ -108,7 +125,6 @@ impl<E: Agenda<Item = Event>, O: Agenda<Item = LineEntry>> Workshop<'_, E, O> {
 
     // The order in hand is stranded.
     pub(crate) fn strand(&mut self, hand: InHand)
-        requires range { IsOrder hand.order }
         ensures { self.new ≡ left self.old (stranded hand.order (control self.old)) self.old.places.now }
     {
         self.put_down(hand, OrderState::Stranded);

@@ -5,11 +5,13 @@ mod closings;
 mod finishes;
 mod hands;
 mod serving;
+mod stations;
 mod steps;
 mod withdrawals;
 
 use hands::InHand;
 use machine::{Fault, Network, Record};
+use stations::StationNumber;
 pub use steps::Step;
 
 // How far a run is.
@@ -23,6 +25,9 @@ pub struct Run {
 }
 
 // All that a step works on, which is lent to it.
+// How many places are free stays a clause: calls ask for 1, 2, 3, 8 or 9 of them, so no one number is a fact of the type.
+// `Ready` stays one too: it does not hold between a put into a store and the record of it, so it is no invariant.
+// That station k has a bench free stays one: it is a fact of the network and k together, which the start at k may end.
 #[derive(Drop)]
 struct Workshop<'a, E, O> {
     net: &'a mut Network,

@@ -3,10 +3,10 @@ ghost use Rattle.std.specs.Prelude.{◌≡◌, ◌<◌, length};
 ghost use Rattle.machine.specs.Network.{station, open_station};
 ghost use Rattle.machine.specs.Step.{at_limit, start, wait, enter, start_front};
 ghost use Rattle.simulations.specs.Calls.{Call};
-ghost use Rattle.simulations.specs.Conditions.{IsOrder, IsStation, NetworkFit};
+ghost use Rattle.simulations.specs.Conditions.{NetworkFit};
 ghost use Rattle.workshop.specs.Workshop.{simulated, Sound, Ready, Same};
 
-use crate::{InHand, Workshop};
+use crate::{InHand, StationNumber, Workshop};
 use elements::{Event, EventKind, LineEntry};
 use machine::{Network, StoreName};
 use stores::{Agenda, Refusal};
@@ -19,16 +19,14 @@ fn is_limit(refusal: &Refusal) -> bool
 }
 
 // The station that is reached from k by following closings.
-fn open_station(net: &Network, k: u8) -> u8
-    requires declared { IsStation k }
+fn open_station(net: &Network, k: StationNumber) -> StationNumber
     requires fit { NetworkFit net.now }
-    ensures answer { result ≡ open_station net.now k }
-    ensures declared { IsStation result }
+    ensures answer { result.number ≡ open_station net.now k.number }
 {
     let mut r = k;
     'follow: for _turn in 0..32u8 {
-        match net.stations[r as usize].into {
-            Some(j) => r = j,
+        match net.stations[r.number as usize].into {
+            Some(j) => r = StationNumber::new(j),
             None => return r,
         }
     }
@@ -37,22 +35,20 @@ fn open_station(net: &Network, k: u8) -> u8
 
 impl<E: Agenda<Item = Event>, O: Agenda<Item = LineEntry>> Workshop<'_, E, O> {
     // Starts the order in hand at station k, or strands it where the event store refuses its finish.
-    fn start(&mut self, hand: InHand, k: u8)
-        requires order { IsOrder hand.order }
-        requires declared { IsStation k }
+    fn start(&mut self, hand: InHand, k: StationNumber)
         requires place { self.old.used < length self.old.places.now }
-        requires bench { (station self.old.net.now k).busy < 8 }
+        requires bench { (station self.old.net.now k.number).busy < 8 }
         requires ready { Ready E.Store.sound O.Store.sound E.Store.meaning O.Store.meaning self.old }
         ensures sound { Sound E.Store.sound O.Store.sound self.new }
-        ensures call { Call (start hand.order k) 1 (simulated E.Store.meaning O.Store.meaning self.old) (simulated E.Store.meaning O.Store.meaning self.new) }
+        ensures call { Call (start hand.order k.number) 1 (simulated E.Store.meaning O.Store.meaning self.old) (simulated E.Store.meaning O.Store.meaning self.new) }
         ensures same { Same self.old self.new }
     {
-        let takes = self.net.stations[k as usize].takes;
+        let takes = self.net.stations[k.number as usize].takes;
         let event = Event {
             time: self.run.instant + takes,
             kind: EventKind::Finish {
                 order: hand.order,
-                station: k,
+                station: k.number,
             },
         };
         match self.events.put(0, event) {
@@ -66,13 +62,11 @@ impl<E: Agenda<Item = Event>, O: Agenda<Item = LineEntry>> Workshop<'_, E, O> {
 
     // Puts the order in hand in line k; at the line's limit it goes away, and where the order store refuses otherwise it is
     // stranded.
-    fn wait(&mut self, hand: InHand, k: u8)
-        requires order { IsOrder hand.order }
-        requires declared { IsStation k }
+    fn wait(&mut self, hand: InHand, k: StationNumber)
         requires place { self.old.used < length self.old.places.now }
         requires ready { Ready E.Store.sound O.Store.sound E.Store.meaning O.Store.meaning self.old }
         ensures sound { Sound E.Store.sound O.Store.sound self.new }
-        ensures call { Call (wait hand.order k) 1 (simulated E.Store.meaning O.Store.meaning self.old) (simulated E.Store.meaning O.Store.meaning self.new) }
+        ensures call { Call (wait hand.order k.number) 1 (simulated E.Store.meaning O.Store.meaning self.old) (simulated E.Store.meaning O.Store.meaning self.new) }
         ensures same { Same self.old self.new }
     {
         let order = self.net.orders[hand.order as usize];
@@ -81,7 +75,7 @@ impl<E: Agenda<Item = Event>, O: Agenda<Item = LineEntry>> Workshop<'_, E, O> {
             urgency: order.urgency,
             due: order.due,
         };
-        match self.orders.put(k, entry) {
+        match self.orders.put(k.number, entry) {
             Ok(stamp) => self.line_up(hand, k, stamp),
             Err(refusal) => {
                 if is_limit(&refusal) {
@@ -95,17 +89,15 @@ impl<E: Agenda<Item = Event>, O: Agenda<Item = LineEntry>> Workshop<'_, E, O> {
     }
 
     // The order in hand enters station k.
-    pub(crate) fn enter(&mut self, hand: InHand, k: u8)
-        requires order { IsOrder hand.order }
-        requires declared { IsStation k }
+    pub(crate) fn enter(&mut self, hand: InHand, k: StationNumber)
         requires place { self.old.used < length self.old.places.now }
         requires ready { Ready E.Store.sound O.Store.sound E.Store.meaning O.Store.meaning self.old }
         ensures sound { Sound E.Store.sound O.Store.sound self.new }
-        ensures call { Call (enter hand.order k) 1 (simulated E.Store.meaning O.Store.meaning self.old) (simulated E.Store.meaning O.Store.meaning self.new) }
+        ensures call { Call (enter hand.order k.number) 1 (simulated E.Store.meaning O.Store.meaning self.old) (simulated E.Store.meaning O.Store.meaning self.new) }
         ensures same { Same self.old self.new }
     {
         let r = open_station(self.net, k);
-        let station = self.net.stations[r as usize];
+        let station = self.net.stations[r.number as usize];
         if station.busy < station.benches {
             self.start(hand, r);
         } else {
@@ -114,16 +106,15 @@ impl<E: Agenda<Item = Event>, O: Agenda<Item = LineEntry>> Workshop<'_, E, O> {
     }
 
     // The front of line k, if any, starts at station k.
-    pub(crate) fn start_front(&mut self, k: u8)
-        requires declared { IsStation k }
+    pub(crate) fn start_front(&mut self, k: StationNumber)
         requires place { self.old.used < length self.old.places.now }
-        requires bench { (station self.old.net.now k).busy < 8 }
+        requires bench { (station self.old.net.now k.number).busy < 8 }
         requires ready { Ready E.Store.sound O.Store.sound E.Store.meaning O.Store.meaning self.old }
         ensures sound { Sound E.Store.sound O.Store.sound self.new }
-        ensures call { Call (start_front k) 1 (simulated E.Store.meaning O.Store.meaning self.old) (simulated E.Store.meaning O.Store.meaning self.new) }
+        ensures call { Call (start_front k.number) 1 (simulated E.Store.meaning O.Store.meaning self.old) (simulated E.Store.meaning O.Store.meaning self.new) }
         ensures same { Same self.old self.new }
     {
-        let front = self.orders.take(k).ok().flatten();
+        let front = self.orders.take(k.number).ok().flatten();
         if let Some(entry) = front {
             self.start(InHand::new(entry.element.order), k);
         }

@@ -9,7 +9,7 @@ ghost use Rattle.simulations.specs.Conditions.{KindFit, Fit};
 ghost use Rattle.simulations.specs.Writes.{simulation};
 ghost use Rattle.workshop.specs.Workshop.{under_way, simulated, Sound, Ready, Same};
 
-use crate::{InHand, Run, Workshop};
+use crate::{InHand, Run, StationNumber, Workshop};
 use elements::{Event, EventKind, LineEntry};
 use machine::{Network, Progress, Record, TooShort};
 use stores::Agenda;
@@ -35,10 +35,19 @@ impl<E: Agenda<Item = Event>, O: Agenda<Item = LineEntry>> Workshop<'_, E, O> {
         ensures same { Same self.old self.new }
     {
         match kind {
-            EventKind::Arrive { order, station } => self.enter(InHand::new(order), station),
-            EventKind::Finish { order, station } => self.finish(InHand::new(order), station),
+            EventKind::Arrive { order, station } => self.enter(
+                InHand::new(order),
+                StationNumber::new(station),
+            ),
+            EventKind::Finish { order, station } => self.finish(
+                InHand::new(order),
+                StationNumber::new(station),
+            ),
             EventKind::Withdraw { order } => self.withdraw(order, kind),
-            EventKind::Close { station, into } => self.close(station, into),
+            EventKind::Close { station, into } => self.close(
+                StationNumber::new(station),
+                StationNumber::new(into),
+            ),
         }
     }
 

@@ -5,12 +5,12 @@ ghost use Rattle.machine.specs.declared.records.RecordKind.TheVariants.{Withdraw
 ghost use Rattle.machine.specs.Network.{order, marked, freed};
 ghost use Rattle.machine.specs.Step.{withdraw};
 ghost use Rattle.simulations.specs.Calls.{Call};
-ghost use Rattle.simulations.specs.Conditions.{IsOrder, IsStation};
+ghost use Rattle.simulations.specs.Conditions.{IsOrder};
 ghost use Rattle.simulations.specs.Writes.{with_network, one_more, noted};
 ghost use Rattle.workshop.specs.Workshop.{control, simulated, Sound, Ready, left, Same};
 ghost use Rattle.workshop.specs.Withdrawals.{withdrawal, state_after};
 
-use crate::Workshop;
+use crate::{StationNumber, Workshop};
 use elements::{Event, EventKind, LineEntry};
 use machine::{OrderState, RecordKind};
 use stores::Agenda;
@@ -49,11 +49,11 @@ impl<E: Agenda<Item = Event>, O: Agenda<Item = LineEntry>> Workshop<'_, E, O> {
     }
 
     // Order i was withdrawn from its bench at station k, which is free.
-    fn clear_bench(&mut self, i: u16, k: u8)
-        requires range { (IsStation k) × (self.old.used < length self.old.places.now) }
-        ensures { self.new ≡ left self.old (one_more (with_network (control self.old) (freed k self.old.net.now))) (noted (Withdrawn i) (control self.old) self.old.places.now) }
+    fn clear_bench(&mut self, i: u16, k: StationNumber)
+        requires place { self.old.used < length self.old.places.now }
+        ensures { self.new ≡ left self.old (one_more (with_network (control self.old) (freed k.number self.old.net.now))) (noted (Withdrawn i) (control self.old) self.old.places.now) }
     {
-        self.net.stations[k as usize].free_bench();
+        self.net.stations[k.number as usize].free_bench();
         self.note(RecordKind::Withdrawn { order: i });
     }
 
@@ -74,8 +74,9 @@ impl<E: Agenda<Item = Event>, O: Agenda<Item = LineEntry>> Workshop<'_, E, O> {
             }
             Withdrawal::FromBench { station, stamp } => {
                 let _ = self.events.cancel(stamp);
-                self.clear_bench(i, station);
-                self.start_front(station);
+                let k = StationNumber::new(station);
+                self.clear_bench(i, k);
+                self.start_front(k);
             }
             Withdrawal::Missed => self.note(RecordKind::Missed { order: i }),
         }

@@ -9,12 +9,12 @@ pub fill-requires-clause-ready : goal.fill-requires-clause-ready
 fill-requires-clause-ready g c =
     let r = c.requires in
     let p = c.in-Ok.ensures in
-    let ne = apart c.args.k c.args.j c.args.self.now.net.now (sym (sym c.if-stays_open.false ∙ c.stays_open.ensures.answer)) in
-    rw c.shut.ensures (record { sound = (r.ready.sound.0, p.sound); fit = shut_fit _ _ r.declared r.second ne _ _ _ _ r.ready.fit _ _ p.effect })
+    let ne = apart c.args.k.number c.args.j.number c.args.self.now.net.now (sym (sym c.if-stays_open.false ∙ c.stays_open.ensures.answer)) in
+    rw c.shut.ensures (record { sound = (r.ready.sound.0, p.sound); fit = shut_fit _ _ c.args.k.known c.args.j.known ne _ _ _ _ r.ready.fit _ _ p.effect })
 
 pub returns-in-Ok-clause-call : goal.returns-in-Ok-clause-call
 returns-in-Ok-clause-call g c =
     let r = c.requires in
     let open_is = sym (sym c.if-stays_open.false ∙ c.stays_open.ensures.answer) in
-    let ne = apart c.args.k c.args.j c.args.self.now.net.now open_is in
-    close_fills _ _ r.declared r.second ne _ _ _ _ r.ready.fit _ _ c.in-Ok.ensures.effect open_is (omega (arith, r.places)) _ (rw c.shut.ensures at c.fill.ensures.call)
+    let ne = apart c.args.k.number c.args.j.number c.args.self.now.net.now open_is in
+    close_fills _ _ c.args.k.known c.args.j.known ne _ _ _ _ r.ready.fit _ _ c.in-Ok.ensures.effect open_is (omega (arith, r.places)) _ (rw c.shut.ensures at c.fill.ensures.call)

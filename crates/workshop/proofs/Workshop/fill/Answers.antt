@@ -3,7 +3,7 @@ use Rattle.simulations.proofs.Closing.{fill_none}
 use Rattle.workshop.proofs.Workshop.fill.Goals as goal
 
 pub fill-init : goal.fill-init
-fill-init g c = (fill_none c.args.j _ c.requires.ready.fit, c.requires.ready.sound, (refl, refl, refl, refl, refl))
+fill-init g c = (fill_none c.args.j.number _ c.requires.ready.fit, c.requires.ready.sound, (refl, refl, refl, refl, refl))
 
 pub fill-preserved : goal.fill-preserved
 fill-preserved g c =

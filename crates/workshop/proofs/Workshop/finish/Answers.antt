@@ -8,9 +8,9 @@ returns-then-is_some-clause-call g c =
     let s = rw c.vacate.ensures at c.start_front.ensures.call in
     let f = a_fault c.start_front.new.self.run.now.fault (sym c.if-is_some.ensures) in
     rw c.strand.ensures (record {
-      fit = stranded_fit c.args.hand.order c.args.k _ _ _ _ s.fit;
+      fit = stranded_fit c.args.hand.order c.args.k.number _ _ _ _ s.fit;
       few = omega (arith, s.few);
-      outcome = finish_stranded _ _ _ _ _ _ _ f.0 (vacated_on c.args.hand.order c.args.k _ _ _ _ _ (omega (arith, c.requires.places)) s.outcome) refl f.1;
+      outcome = finish_stranded _ _ _ _ _ _ _ f.0 (vacated_on c.args.hand.order c.args.k.number _ _ _ _ _ (omega (arith, c.requires.places)) s.outcome) refl f.1;
     })
 
 pub returns-else-is_some-clause-call : goal.returns-else-is_some-clause-call
@@ -20,5 +20,5 @@ returns-else-is_some-clause-call g c =
     record {
       fit = q.fit;
       few = omega (arith, q.few, s.few);
-      outcome = finish_on _ _ _ _ _ (vacated_on c.args.hand.order c.args.k _ _ _ _ _ (omega (arith, c.requires.places)) s.outcome) refl (no_fault _ (sym c.if-is_some.ensures)) q.outcome;
+      outcome = finish_on _ _ _ _ _ (vacated_on c.args.hand.order c.args.k.number _ _ _ _ _ (omega (arith, c.requires.places)) s.outcome) refl (no_fault _ (sym c.if-is_some.ensures)) q.outcome;
     }

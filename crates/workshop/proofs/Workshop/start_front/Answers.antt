@@ -7,11 +7,11 @@ use Rattle.workshop.proofs.Workshop.start_front.Goals as goal
 pub returns-in-Some-clause-call : goal.returns-in-Some-clause-call
 returns-in-Some-clause-call g c =
     let r = c.requires in
-    let s = rw c.new.ensures at c.start.ensures.call in
-    record { fit = s.fit; few = s.few; outcome = front_starts _ _ _ _ _ _ r.declared c.in-Some.entry _ (took_front line_le _ _ _ _ r.declared c.take.ensures.effect _ _ _ c.ok.ensures.value c.flatten-front.ensures c.in-Some.is) s.outcome }
+    let s = rw c.new.ensures.order at c.start.ensures.call in
+    record { fit = s.fit; few = s.few; outcome = front_starts _ _ _ _ _ _ c.args.k.known c.in-Some.entry _ (took_front line_le _ _ _ _ c.args.k.known c.take.ensures.effect _ _ _ c.ok.ensures.value c.flatten-front.ensures c.in-Some.is) s.outcome }
 
 pub returns-in_default-clause-call : goal.returns-in_default-clause-call
 returns-in_default-clause-call g c =
     let r = c.requires in
-    let p = took_front line_le _ _ _ _ r.declared c.take.ensures.effect _ _ _ c.ok.ensures.value c.flatten-front.ensures c.in_default.is in
-    record { fit = search rules; few = omega arith; outcome = front_none _ _ _ _ _ _ r.declared p }
+    let p = took_front line_le _ _ _ _ c.args.k.known c.take.ensures.effect _ _ _ c.ok.ensures.value c.flatten-front.ensures c.in_default.is in
+    record { fit = search rules; few = omega arith; outcome = front_none _ _ _ _ _ _ c.args.k.known p }

@@ -24,7 +24,7 @@ start_front-requires-clause-ready g c =
     let k = c.in-FromBench.station in
     let s = c.in-FromBench.stamp in
     let e = served_left c.args.i c.args.kind _ _ _ c.requires.kind q.answer q.left k s c.in-FromBench.is in
-    rw (c.clear_bench.ensures, e) (record { sound = (c.cancel-in-FromBench.ensures.sound, c.requires.ready.sound.1); fit = interrupted_fit c.args.i _ _ _ _ c.requires.ready.fit (omega (arith, c.requires.places)) k s _ _ (rw e at c.cancel-in-FromBench.ensures.effect) })
+    rw (c.clear_bench.ensures, c.new-k.ensures, e) (record { sound = (c.cancel-in-FromBench.ensures.sound, c.requires.ready.sound.1); fit = interrupted_fit c.args.i _ _ _ _ c.requires.ready.fit (omega (arith, c.requires.places)) k s _ _ (rw e at c.cancel-in-FromBench.ensures.effect) })
 
 pub returns-in-FromBench-clause-call : goal.returns-in-FromBench-clause-call
 returns-in-FromBench-clause-call g c =
@@ -34,7 +34,7 @@ returns-in-FromBench-clause-call g c =
     let s = c.in-FromBench.stamp in
     let e = served_left c.args.i c.args.kind _ _ _ c.requires.kind q.answer q.left k s c.in-FromBench.is in
     let is = served c.args.i c.args.kind _ _ _ c.requires.kind q.answer q.left k s c.in-FromBench.is in
-    let p = rw (c.clear_bench.ensures, e) at c.start_front.ensures.call in
+    let p = rw (c.clear_bench.ensures, c.new-k.ensures, e) at c.start_front.ensures.call in
     record {
       fit = p.fit;
       few = omega (arith, p.few);

@@ -6,7 +6,7 @@ use crate::lines::LineEntry;
 use crate::order::Ordered;
 
 // An element and the stamp that it was given when it was put: 0 for the first of a store, 1 for the next, and on.
-#[derive(Clone, Copy, PartialEq, Eq, Debug)]
+#[derive(Clone, Copy, Default, PartialEq, Eq, Debug)]
 pub struct Entry<T> {
     pub element: T,
     pub stamp: u16,

@@ -66,10 +66,8 @@ impl Form {
                 next,
             } => {
                 station <= LAST_STATION
-                    && benches >= 1
-                    && benches <= MOST_BENCHES
-                    && takes >= 1
-                    && takes <= LONGEST_SERVICE
+                    && (1..=MOST_BENCHES).contains(&benches)
+                    && (1..=LONGEST_SERVICE).contains(&takes)
                     && holds <= LONGEST_LINE
                     && next.is_none_or(|k| k <= LAST_STATION)
             }
@@ -105,6 +103,7 @@ pub enum FormRefusal {
     Store { refusal: Refusal },
 }
 
+// By a match, since a variant with a field cannot be cast to its number.
 impl FormRefusal {
     pub fn number(&self) -> u8
         ensures { result ≡ form_number self.now }
@@ -135,6 +134,7 @@ pub enum ScriptRefusal {
     Form { refusal: FormRefusal },
 }
 
+// By a match, since a variant with a field cannot be cast to its number.
 impl ScriptRefusal {
     pub fn number(&self) -> u8
         ensures { result ≡ script_number self.now }

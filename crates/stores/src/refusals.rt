@@ -13,6 +13,8 @@ pub enum Refusal {
     NotQueued { height: u8 },
 }
 
+// The numbers are told by methods, and not by `From` or a cast: a variant with a field cannot be cast, and at a call a
+// `number()` says which of a refusal's two numbers is meant.
 impl Refusal {
     pub fn number(&self) -> u8
         ensures { result ≡ number_of self.now }
@@ -31,8 +33,7 @@ impl Refusal {
         ensures { result ≡ height_of self.now }
     {
         match self {
-            Refusal::AtLimit { height } => *height,
-            Refusal::NotQueued { height } => *height,
+            Refusal::AtLimit { height } | Refusal::NotQueued { height } => *height,
             Refusal::QueueNumber | Refusal::SameQueue | Refusal::NoCell | Refusal::NoStamp => 0,
         }
     }

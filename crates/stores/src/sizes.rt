@@ -10,10 +10,17 @@ pub struct Sizes {
 }
 
 impl Sizes {
+    // The largest store.
+    pub const LARGEST: Sizes = Sizes {
+        cells: 4096,
+        stamps: 32768,
+    };
+
     // Whether a store may have them.
     pub fn are_allowed(&self) -> bool
         ensures { MatchBool result (Allowed self.now.cells self.now.stamps) (Allowed self.now.cells self.now.stamps → ⊥) }
     {
-        self.cells >= 1 && self.cells <= 4096 && self.stamps >= 1 && self.stamps <= 32768
+        (1..=Sizes::LARGEST.cells).contains(&self.cells)
+            && (1..=Sizes::LARGEST.stamps).contains(&self.stamps)
     }
 }

@@ -10,6 +10,8 @@ use elements::{Entry, Ordered};
 
 // `meaning` is what the store stands for. `sound` is a condition of the implementation's own on what it holds, which
 // making gives and every call needs and keeps. A refused call leaves the whole value as it was.
+// It is no ghost field of each store: a struct with one that stands beside a lent `&mut` in one type argument is not covered,
+// so no layer over a store in lent memory could be written.
 pub trait Store {
     type Item: Ordered + Copy;
 

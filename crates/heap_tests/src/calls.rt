@@ -1,5 +1,5 @@
-// Calls of a store, and their answers, as values that can be listed and compared. They stay beside those of store_checks:
-// these put events and tell stamps, those put orders, tell a refusal's height too, and stand in contracts.
+// Calls of a store, and their answers, as values that can be listed and compared. They stay beside those in store_checks:
+// these put events and tell stamps; those put orders, tell the height of a refusal too, and stand in a contract.
 use elements::{Entry, Event, EventKind};
 use std::test::Fail;
 use store_checks::check;

@@ -12,7 +12,7 @@ pub struct Link {
 }
 
 impl Link {
-    // An idle cell.
+    // An idle cell, where no type of entries is named, as `HeapLink::idle` asks.
     pub fn idle(next: Option<u16>) -> Link
         ensures { result ≡ idle_to next }
     {

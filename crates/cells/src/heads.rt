@@ -4,7 +4,7 @@ ghost use Rattle.cells.specs.Queues.{fresh_heads, kept_queue, no_queue, with_que
 
 use stores::Refusal;
 
-#[derive(Clone, Copy, PartialEq, Eq, Debug)]
+#[derive(Clone, Copy, Default, PartialEq, Eq, Debug)]
 pub struct Queue {
     // the cell of the heap's root, or none where the queue is empty
     pub root: Option<u16>,
@@ -26,12 +26,8 @@ impl Heads {
     pub fn fresh(free: Option<u16>, stamps: u16) -> Heads
         ensures { result ≡ fresh_heads free stamps }
     {
-        let empty = Queue {
-            root: None,
-            count: 0,
-        };
         Heads {
-            queues: [empty; 32],
+            queues: [Queue::default(); 32],
             free,
             next: 0,
             stamps,

@@ -22,12 +22,13 @@ pub trait HeapLink<T: Ordered + Copy>: Copy {
     fn next_idle(&self) -> Option<u16>
         ensures { result ≡ (form T.Ordered.le).right self.now };
 
+    // Two slices and no struct of both: where a meld calls itself, it would have to promise that both are still held.
     // The heaps at a and b become one, whose root is the answer. Only their own cells are written.
     fn meld(links: &mut [Self], entries: &[Entry<T>], a: Option<u16>, b: Option<u16>) -> Option<u16>
         requires { (s : Tree (Entry T)) × (t : Tree (Entry T)) × Meldable (form T.Ordered.le) links.old entries.now a b s t }
         ensures { (s t : Tree (Entry T)) → Meldable (form T.Ordered.le) links.old entries.now a b s t → Melded (form T.Ordered.le) links.old entries.now s t links.new result };
 
-    // The cell of the front entry of the heap at root.
+    // The cell of the front entry of the heap at root. No body by default: not in every form the root is in front.
     fn front(links: &[Self], entries: &[Entry<T>], root: u16) -> u16
         requires { (t : Tree (Entry T)) × HeapAt (form T.Ordered.le) links.now entries.now (Some root) t }
         ensures { (t : Tree (Entry T)) → HeapAt (form T.Ordered.le) links.now entries.now (Some root) t → FrontIn (form T.Ordered.le) entries.now t result };

@@ -12,6 +12,7 @@ pub trait ForestLink<T: Ordered + Copy>: Copy {
 
     ghost has_room: { Self → Type 0 };
 
+    // `child` and `before` read alike in the impls, which no body by default can: the types of link differ in a field.
     fn child(&self) -> Option<u16>
         ensures { result ≡ (layout T.Ordered.le).child self.now };
 

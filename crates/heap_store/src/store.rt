@@ -7,7 +7,7 @@ ghost use Rattle.cells.specs.Trees.{Tree, leaf};
 ghost use Rattle.cells.specs.Forms.{HeapAt, Meldable, Melded, FrontTaken};
 ghost use Rattle.cells.specs.Queues.{Fit, placed, with_idle};
 ghost use Rattle.cells.proofs.Soundness.{formed};
-ghost use Rattle.heap_store.specs.Store.{meaning_lent, sound_lent};
+ghost use Rattle.heap_store.specs.Store.{SameSlices, meaning_lent, sound_lent};
 
 use crate::idle::make_idle;
 use cells::{Heads, HeapLink, Queue};
@@ -54,7 +54,7 @@ impl<'a, L: HeapLink<T>, T: Ordered + Copy> HeapStore<'a, L, T> {
         ensures heads { self.new.heads ≡ with_idle self.old.heads ((L.form T.Ordered.le).right (slice_index_or self.old.links.now cell (L.form T.Ordered.le).none)) (self.old.heads.next + 1) }
         ensures links { self.new.links.now ≡ slice_set self.old.links.now cell ((L.form T.Ordered.le).link leaf leaf) }
         ensures entries { self.new.entries.now ≡ slice_set self.old.entries.now cell (record { element = element; stamp = self.old.heads.next }) }
-        ensures lent { (self.new.links.ghost_name ≡ self.old.links.ghost_name) × (self.new.entries.ghost_name ≡ self.old.entries.ghost_name) }
+        ensures lent { SameSlices self.old self.new }
     {
         let stamp = self.heads.next;
         self.heads.free = self.links[cell as usize].next_idle();
@@ -75,7 +75,7 @@ impl<'a, L: HeapLink<T>, T: Ordered + Copy> HeapStore<'a, L, T> {
         ensures heads { self.new.heads ≡ with_idle self.old.heads (Some cell) self.old.heads.next }
         ensures links { self.new.links.now ≡ slice_set self.old.links.now cell ((L.form T.Ordered.le).idle self.old.heads.free) }
         ensures entries { self.new.entries ≡ self.old.entries }
-        ensures lent { self.new.links.ghost_name ≡ self.old.links.ghost_name }
+        ensures lent { SameSlices self.old self.new }
     {
         self.links[cell as usize] = L::idle(self.heads.free);
         self.heads.free = Some(cell);
@@ -89,7 +89,7 @@ impl<'a, L: HeapLink<T>, T: Ordered + Copy> HeapStore<'a, L, T> {
         ensures long { length self.new.links.now ≡ length self.old.links.now }
         ensures heads { self.new.heads ≡ self.old.heads }
         ensures entries { self.new.entries ≡ self.old.entries }
-        ensures lent { self.new.links.ghost_name ≡ self.old.links.ghost_name }
+        ensures lent { SameSlices self.old self.new }
     {
         let links = mem::take(&mut self.links);
         let entries = mem::take(&mut self.entries);
@@ -106,7 +106,7 @@ impl<'a, L: HeapLink<T>, T: Ordered + Copy> HeapStore<'a, L, T> {
         ensures long { length self.new.links.now ≡ length self.old.links.now }
         ensures heads { self.new.heads ≡ self.old.heads }
         ensures entries { self.new.entries ≡ self.old.entries }
-        ensures lent { self.new.links.ghost_name ≡ self.old.links.ghost_name }
+        ensures lent { SameSlices self.old self.new }
     {
         let links = mem::take(&mut self.links);
         let entries = mem::take(&mut self.entries);
@@ -131,7 +131,7 @@ impl<'a, L: HeapLink<T>, T: Ordered + Copy> Store for HeapStore<'a, L, T> {
         ensures effect { Puts T.Ordered.le (meaning_lent (L.form T.Ordered.le) self.old) queue element result (meaning_lent (L.form T.Ordered.le) self.new) }
         ensures entries { self.new.entries.now ≡ placed result self.old.heads.free self.old.entries.now element }
         ensures refused { Unchanged result self.old self.new }
-        ensures lent { (self.new.links.ghost_name ≡ self.old.links.ghost_name) × (self.new.entries.ghost_name ≡ self.old.entries.ghost_name) }
+        ensures lent { SameSlices self.old self.new }
     {
         let Queue { root, count } = self.heads.queue(queue)?;
         let cell = self.heads.free.ok_or(Refusal::NoCell)?;
@@ -159,7 +159,7 @@ impl<'a, L: HeapLink<T>, T: Ordered + Copy> Store for HeapStore<'a, L, T> {
         ensures effect { Takes T.Ordered.le (meaning_lent (L.form T.Ordered.le) self.old) queue result (meaning_lent (L.form T.Ordered.le) self.new) }
         ensures entries { self.new.entries.now ≡ self.old.entries.now }
         ensures refused { Unchanged result self.old self.new }
-        ensures lent { (self.new.links.ghost_name ≡ self.old.links.ghost_name) × (self.new.entries.ghost_name ≡ self.old.entries.ghost_name) }
+        ensures lent { SameSlices self.old self.new }
     {
         let kept = self.heads.queue(queue)?;
         let Some(root) = kept.root else {
@@ -178,7 +178,7 @@ impl<'a, L: HeapLink<T>, T: Ordered + Copy> Store for HeapStore<'a, L, T> {
         ensures effect { Melds T.Ordered.le (meaning_lent (L.form T.Ordered.le) self.old) into from result (meaning_lent (L.form T.Ordered.le) self.new) }
         ensures entries { self.new.entries.now ≡ self.old.entries.now }
         ensures refused { Unchanged result self.old self.new }
-        ensures lent { (self.new.links.ghost_name ≡ self.old.links.ghost_name) × (self.new.entries.ghost_name ≡ self.old.entries.ghost_name) }
+        ensures lent { SameSlices self.old self.new }
     {
         let kept = self.heads.queue(into)?.root;
         let moved = self.heads.queue(from)?.root;

@@ -1,18 +1,14 @@
 // The three heaps and the table answer one long list of calls alike.
-use crate::calls::{Answer, Call, blank, make_call};
-use cells::HeapLink;
+use crate::calls::{Answer, Call, make_call};
+use crate::heaps::tried;
+use crate::trials::Trial;
 use elements::Event;
 use std::test::Fail;
 use store_checks::check;
 use stores::{Sizes, Store};
 
-// How many calls are made, of how many cells and stamps: puts are refused for want of either.
+// How many calls are made.
 const CALLS: usize = 8000;
-
-const SIZES: Sizes = Sizes {
-    cells: 120,
-    stamps: 2500,
-};
 
 // The i-th call: about half are puts, of eight times in four queues, then takes, and now and then a meld or a question.
 fn nth_call(i: usize) -> Call {
@@ -34,35 +30,32 @@ fn nth_call(i: usize) -> Call {
     }
 }
 
-// The answers of a store.
-fn answers_of<S: Store<Item = Event>>(store: &mut S, answers: &mut [Answer])
-    requires { S.Store.sound store.old }
-{
-    for (i, answer) in answers.iter_mut().enumerate() {
-        *answer = make_call(store, nth_call(i));
-    }
-}
+// The answers of a store to the calls in a row.
+#[derive(Drop)]
+struct Answers<'a>(&'a mut [Answer]);
 
-fn heap_answers<L: HeapLink<Event>>(
-    rt: &impl AllocGlobal,
-    answers: &mut [Answer],
-) -> Result<(), Fail> {
-    let heap = rt.alloc();
-    let mut links = vec![in heap; L::idle(None); SIZES.cells as usize]?;
-    let mut entries = vec![in heap; blank(); SIZES.cells as usize]?;
-    heap_store::fits(&links, &entries, SIZES)?;
-    let mut store = heap_store::make::<L, Event>(&mut links, &mut entries, SIZES);
-    answers_of(&mut store, answers);
-    Ok(())
+impl<'a> Trial for Answers<'a> {
+    // so few that puts are refused for want of either
+    const SIZES: Sizes = Sizes {
+        cells: 120,
+        stamps: 2500,
+    };
+
+    fn run<S: Store<Item = Event>>(self, store: &mut S) -> Result<(), Fail> {
+        for (i, answer) in self.0.iter_mut().enumerate() {
+            *answer = make_call(store, nth_call(i));
+        }
+        Ok(())
+    }
 }
 
 fn table_answers(rt: &impl AllocGlobal, answers: &mut [Answer]) -> Result<(), Fail> {
     let heap = rt.alloc();
-    let mut cells = vec![in heap; None; SIZES.cells as usize]?;
-    table::fits(&cells, SIZES)?;
-    let mut store = table::make(&mut cells, SIZES);
-    answers_of(&mut store, answers);
-    Ok(())
+    let sizes = Answers::SIZES;
+    let mut cells = vec![in heap; None; sizes.cells as usize]?;
+    table::fits(&cells, sizes)?;
+    let mut store = table::make(&mut cells, sizes);
+    Answers(answers).run(&mut store)
 }
 
 fn same_answers(left: &[Answer], right: &[Answer]) -> Result<(), Fail> {
@@ -85,11 +78,11 @@ fn all_stores_answer_alike(rt: HostRuntime) -> Result<(), Fail> {
     assert!(rt; times(&answers, Answer::Refused(12)) > 0);
     assert!(rt; times(&answers, Answer::Refused(13)) > 0);
     assert!(rt; times(&answers, Answer::Nothing) < CALLS / 8);
-    heap_answers::<leftist::Link>(&rt, &mut others)?;
+    tried::<leftist::Link, Answers>(&rt, Answers(&mut others))?;
     same_answers(&answers, &others)?;
-    heap_answers::<pairing::Link>(&rt, &mut others)?;
+    tried::<pairing::Link, Answers>(&rt, Answers(&mut others))?;
     same_answers(&answers, &others)?;
-    heap_answers::<binomial::Link>(&rt, &mut others)?;
+    tried::<binomial::Link, Answers>(&rt, Answers(&mut others))?;
     same_answers(&answers, &others)?;
     Ok(())
 }

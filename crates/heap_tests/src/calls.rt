@@ -1,4 +1,5 @@
-// Calls of a store, and their answers, as values that can be listed and compared.
+// Calls of a store, and their answers, as values that can be listed and compared. They stay beside those in store_checks:
+// these put events and tell stamps; those put orders, tell the height of a refusal too, and stand in a contract.
 use elements::{Entry, Event, EventKind};
 use std::test::Fail;
 use store_checks::check;
@@ -29,6 +30,7 @@ pub fn event(time: u32) -> Event {
     }
 }
 
+// What a cell holds at first. No default: an event has none, since no kind of event is what there is by default.
 pub fn blank() -> Entry<Event> {
     Entry {
         element: event(0),

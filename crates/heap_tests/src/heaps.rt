@@ -1,6 +1,6 @@
 // Each trial over each form of heap.
 use crate::calls::blank;
-use crate::trials::Trial;
+use crate::trials::{AllCells, Ascending, Melds, Refusals, Ties, Trial};
 use cells::HeapLink;
 use elements::Event;
 use heap_store::{fits, make};
@@ -9,9 +9,12 @@ use std::test::Fail;
 use stores::Sizes;
 
 // The trial over a fresh store of one form of heap.
-fn tried<L: HeapLink<Event>>(rt: &impl AllocGlobal, trial: Trial) -> Result<(), Fail> {
+pub fn tried<L: HeapLink<Event>, C: Trial + Drop>(
+    rt: &impl AllocGlobal,
+    trial: C,
+) -> Result<(), Fail> {
     let heap = rt.alloc();
-    let sizes = trial.sizes();
+    let sizes = C::SIZES;
     let mut links = vec![in heap; L::idle(None); sizes.cells as usize]?;
     let mut entries = vec![in heap; blank(); sizes.cells as usize]?;
     fits(&links, &entries, sizes)?;
@@ -20,10 +23,10 @@ fn tried<L: HeapLink<Event>>(rt: &impl AllocGlobal, trial: Trial) -> Result<(), 
 }
 
 // The same over each form of heap.
-fn on_each_heap(rt: &impl AllocGlobal, trial: Trial) -> Result<(), Fail> {
-    tried::<leftist::Link>(rt, trial)?;
-    tried::<pairing::Link>(rt, trial)?;
-    tried::<binomial::Link>(rt, trial)
+fn on_each_heap<C: Trial + Copy>(rt: &impl AllocGlobal, trial: C) -> Result<(), Fail> {
+    tried::<leftist::Link, C>(rt, trial)?;
+    tried::<pairing::Link, C>(rt, trial)?;
+    tried::<binomial::Link, C>(rt, trial)
 }
 
 // Whether a store of so many cells and stamps can be made over these links, of which there are two.
@@ -51,27 +54,27 @@ fn sizes_that_fit(rt: HostRuntime) {
 
 #[test]
 fn equal_elements_come_by_stamp(rt: HostRuntime) -> Result<(), Fail> {
-    on_each_heap(&rt, Trial::Ties)
+    on_each_heap(&rt, Ties)
 }
 
 #[test]
 fn refusals_in_their_order(rt: HostRuntime) -> Result<(), Fail> {
-    on_each_heap(&rt, Trial::Refusals)
+    on_each_heap(&rt, Refusals)
 }
 
 #[test]
 fn melds_of_queues(rt: HostRuntime) -> Result<(), Fail> {
-    on_each_heap(&rt, Trial::Melds)
+    on_each_heap(&rt, Melds)
 }
 
 #[test]
 fn fills_and_empties_all_cells(rt: HostRuntime) -> Result<(), Fail> {
-    on_each_heap(&rt, Trial::AllCells)
+    on_each_heap(&rt, AllCells)
 }
 
 // In a pairing heap the first root has all 4,095 other nodes for children when it is taken. In a binomial heap there are
 // twelve carries in a row when the last is put, and a tree of degree 12 loses its root.
 #[test]
 fn takes_the_first_of_all(rt: HostRuntime) -> Result<(), Fail> {
-    on_each_heap(&rt, Trial::Ascending)
+    on_each_heap(&rt, Ascending)
 }

@@ -1,5 +1,5 @@
 -- The store stays sound.
-use Rattle.heap_tests.proofs.trials.ascending.Given as goal
+use Rattle.heap_tests.proofs.agreement.AnswersTrial.run.Given as goal
 
 abbrev pub invariant-loop-i : goal.invariant-loop-i
 invariant-loop-i g l = g.S.Store.sound l.store

@@ -13,10 +13,6 @@ use service_reports::report;
 use std::alloc::{AllocError, Global};
 use stores::{BareHeap, Sizes};
 
-const CELLS: u16 = 4096;
-
-const STAMPS: u16 = 32768;
-
 // By a heap with nothing put yet, under the layer that makes an agenda of it.
 pub fn report_over<B: BareHeap<Item = LineEntry> + Drop>(
     below: B,
@@ -35,17 +31,10 @@ pub fn report_over<B: BareHeap<Item = LineEntry> + Drop>(
 pub fn printed<L: HeapLink<LineEntry>>(text: &[u8], heap: Global) -> Result<String, AllocError>
     ensures { IfOk result (λ s. Printed 4096 32768 text.now (string_bytes s)) }
 {
-    let element = LineEntry {
-        order: 0,
-        urgency: 0,
-        due: 0,
-    };
-    let sizes = Sizes {
-        cells: CELLS,
-        stamps: STAMPS,
-    };
-    let mut links = vec![in heap; L::single(); 4096]?;
-    let mut entries = vec![in heap; Entry { element, stamp: 0 }; 4096]?;
+    let sizes = Sizes::LARGEST;
+    let count = usize::from(sizes.cells);
+    let mut links = vec![in heap; L::single(); count]?;
+    let mut entries = vec![in heap; Entry::default(); count]?;
     let store = make::<L, LineEntry>(&mut links, &mut entries, sizes);
     report_over(store, text, heap)
 }

@@ -1,5 +1,6 @@
 -- How far a line is read along a template.
-use Rattle.std.proofs.Common.{◌≡◌, ℕ, ◌+◌, ◌<◌, ◌≤◌, true, false, List, [], ◌∷◌, ◌++◌, map, length, get_or, take, drop, set, Some, None, sym, refl, ap, ◌∙◌, subst, append_assoc, append-nil, arith, take-append-drop}
+use Rattle.std.proofs.Common.{◌≡◌, ℕ, ◌+◌, ◌<◌, ◌≤◌, Bool, true, false, List, [], ◌∷◌, ◌++◌, map, length, get_or, take, drop, set, Some, None, sym, refl, ap, ◌∙◌, subst, append_assoc, append-nil, arith, take-append-drop}
+use Rattle.std.specs.Bool.{then_some}
 use Rattle.std.specs.List.{AllByRecursion}
 use Rattle.std.proofs.ByRecursion.{All-push}
 use Rattle.std.proofs.lemmas.List.{length_push, map_push, take_more_set, take_all, drop_more, drop_all}
@@ -114,6 +115,12 @@ module _ {t line later rest ns : List ℕ} {k : ℕ} (s : Sofar t line later res
       sym (take_all k ns (omega arith)) ∙ s.gives,
     )
 
+    line_or_none : (n : ℕ) (b : Bool) → length ns ≡ n → (b ≡ true → (rest ≡ []) × (k ≡ n)) → (b ≡ false → rest ≡ [] → k ≡ n → ⊥) → Scans n t line (then_some b ns)
+    line_or_none n true full both _ = subst (λ m. Scans m t line (Some ns)) (both refl).1 (line_read (both refl).0 (full ∙ sym (both refl).1))
+    line_or_none n false full _ never = λ count c es f.
+        let r = s.only c es f in
+        never refl (r.1.is ∙ ap (λ l. fill l r.0) done) (omega (arith, s.left, ap gaps done, count))
+
 -- i bytes of the template are read, and `rest` is to come of the line
 module _ (t line : List ℕ) (i : ℕ) (rest ns : List ℕ) (k : ℕ) (s : Sofar t line (drop i t) rest ns k) where
   module _ (here : i < length t) (is-gap : get_or t i 0 ≡ 35) where
@@ -135,5 +142,6 @@ module _ (t line : List ℕ) (i : ℕ) (rest ns : List ℕ) (k : ℕ) (s : Sofar
     at_byte behind is = byte_read s (get_or t i 0) (drop (i + 1) t) next_byte (ne_eqb _ _ no_gap) behind is
 
   module _ (done : length t ≤ i) where
-    pub all_read : rest ≡ [] → length ns ≡ k → Scans k t line (Some ns)
-    all_read = line_read s (drop_all i t done)
+    -- b tells whether the line is at its end too, and every number read
+    pub all_read : (n : ℕ) (b : Bool) → length ns ≡ n → (b ≡ true → (rest ≡ []) × (k ≡ n)) → (b ≡ false → rest ≡ [] → k ≡ n → ⊥) → Scans n t line (then_some b ns)
+    all_read = line_or_none s (drop_all i t done)

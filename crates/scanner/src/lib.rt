@@ -15,14 +15,15 @@ pub use tokens::Token;
 use tokens::after;
 
 // The byte of a template that stands for a numeral.
-const GAP: u8 = b'#';
+pub const GAP: u8 = b'#';
 
 // The numbers of a line that the template writes, one for each of its N gaps; one that is too large for 32 bits is told
 // as the largest.
 pub fn scan<const N: usize>(line: &[u8], template: &[u8]) -> Option<[u32; N]>
     ensures { Scans N template.now line.now result }
 {
-    // There is no heap here, so an array takes the numbers, and the count of them stands beside it.
+    // The count stands beside the array: of an `iter_mut` advanced by hand in a loop a proof knows the places that are left,
+    // and not what was written to the others. Tried: no invariant could speak of the numbers that are read.
     let mut numbers = [0; N];
     let mut count = 0;
     let mut rest = line;
@@ -39,11 +40,7 @@ pub fn scan<const N: usize>(line: &[u8], template: &[u8]) -> Option<[u32; N]>
             rest = after(rest, *byte)?;
         }
     }
-    if rest.is_empty() && count == N {
-        Some(numbers)
-    } else {
-        None
-    }
+    (rest.is_empty() && count == N).then_some(numbers)
 }
 
 // A theorem, with nothing to compute: a template whose gaps are followed by neither digits nor gaps writes no line with

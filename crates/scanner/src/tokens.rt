@@ -24,6 +24,7 @@ pub fn front(text: &[u8], size: usize) -> Token<'_>
 pub fn after(text: &[u8], byte: u8) -> Option<&[u8]>
     ensures { Begun text.entry byte result }
 {
+    // By a pattern: `split_first` promises nothing about where in the lent bytes its rest lies.
     match text {
         [first, rest @ ..] if *first == byte => Some(rest),
         _ => None,

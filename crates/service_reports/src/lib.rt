@@ -15,7 +15,8 @@ use stores::Agenda;
 use texts::service_text;
 use waiting_orders::{ReadFailure, read_orders};
 
-// What is printed where a text is not read.
+// What is printed where a text is not read. Here and below `format!` writes the line: each is printed at one place, and a
+// type of its own with `Display` would be no plainer.
 fn unread_text(failure: ReadFailure, heap: Global) -> Result<String, AllocError>
     ensures { IfOk result (λ s. Unread failure (string_bytes s)) }
 {

@@ -25,6 +25,8 @@ fn record_template(kind: RecordKind) -> &'static [u8]
     }
 }
 
+// That there is room for any line is a fact of the lent slice in this call, so each of the four asks for it: a type for it
+// would hold the `&mut`, and each would have to promise that it is still the same buffer.
 pub fn record_line(record: &Record, out: &mut [u8]) -> usize
     requires { 96 ≤ length out.old }
     ensures { Written (record_line «record».now) out.old out.new result }

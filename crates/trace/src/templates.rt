@@ -3,8 +3,7 @@ ghost use Rattle.std.specs.Prelude.{◌≡◌, ◌+◌, ◌*◌, ◌<◌, ◌≤
 ghost use Rattle.scanner.specs.Templates.{fill};
 ghost use Rattle.trace.specs.Puts.{Put};
 
-// The byte of a template that stands for a number.
-const GAP: u8 = b'#';
+use scanner::GAP;
 
 // A lent buffer, and how many of its bytes are written. A line is never on the heap, so it is put together here and not
 // by `format!`.

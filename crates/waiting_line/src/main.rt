@@ -10,19 +10,12 @@ use stores::Sizes;
 use table::make;
 use waiting_line_runs::run;
 
-const CELLS: u16 = 4096;
-
-const STAMPS: u16 = 32768;
-
 // What is printed for the text, by a table.
 fn printed(text: &[u8], heap: Global) -> Result<String, AllocError>
     ensures { IfOk result (λ s. Printed 4096 32768 text.now (string_bytes s)) }
 {
-    let sizes = Sizes {
-        cells: CELLS,
-        stamps: STAMPS,
-    };
-    let mut cells = vec![in heap; None; 4096]?;
+    let sizes = Sizes::LARGEST;
+    let mut cells = vec![in heap; None; usize::from(sizes.cells)]?;
     let mut line = make(&mut cells, sizes);
     report(&mut line, text, heap)
 }

@@ -1,4 +1,5 @@
-// What each program of a waiting line does: it reads standard input and prints what is told of it.
+// What each program of a waiting line does: it reads standard input and prints what is told of it. The programs differ in
+// the store that their `main` names, and in nothing else.
 #![tactic(auto)]
 
 use std::alloc::{AllocError, Global};

@@ -28,6 +28,7 @@ impl Unreadable {
     }
 }
 
+// The ranges of a line of the waiting line's own format, which is not that of scripts, whose ranges the machine has.
 const LARGEST_ORDER: u32 = 1023;
 
 const LEAST_URGENT: u32 = 9;
@@ -42,6 +43,7 @@ pub fn read_order(line: &[u8]) -> Result<LineEntry, Unreadable>
     if order > LARGEST_ORDER || urgency > LEAST_URGENT || due > LATEST_DUE {
         return Err(Unreadable::OutOfRange);
     }
+    // The test has just shown that they fit: `try_from` would have a failure that cannot come.
     Ok(LineEntry {
         order: order as u16,
         urgency: urgency as u8,

@@ -51,7 +51,8 @@ impl<E: Agenda<Item = Event>, O: Agenda<Item = LineEntry>> Workshop<'_, E, O> {
         }
     }
 
-    // While station j has a free bench and its line a front, that starts. A station has at most 8 benches.
+    // While station j has a free bench and its line a front, that starts. A station has at most 8 benches. The machine's own
+    // definition makes 8 turns; a condition would make fewer, and need a lemma that the rest do nothing.
     fn fill(&mut self, j: StationNumber)
         requires places { self.old.used + 8 ≤ length self.old.places.now }
         requires ready { Ready E.Store.sound O.Store.sound E.Store.meaning O.Store.meaning self.old }

@@ -1,7 +1,7 @@
 // Starting, waiting and entering.
 ghost use Rattle.std.specs.Prelude.{◌≡◌, ◌<◌, length};
 ghost use Rattle.machine.specs.Network.{station, open_station};
-ghost use Rattle.machine.specs.Step.{at_limit, start, wait, enter, start_front};
+ghost use Rattle.machine.specs.Step.{start, wait, enter, start_front};
 ghost use Rattle.simulations.specs.Calls.{Call};
 ghost use Rattle.simulations.specs.Conditions.{NetworkFit};
 ghost use Rattle.workshop.specs.Workshop.{simulated, Sound, Ready, Same};
@@ -11,14 +11,8 @@ use elements::{Event, EventKind, LineEntry};
 use machine::{Network, StoreName};
 use stores::{Agenda, Refusal};
 
-// Whether the refusal is that of a limit.
-fn is_limit(refusal: &Refusal) -> bool
-    ensures { result ≡ at_limit refusal.now }
-{
-    matches!(refusal, Refusal::AtLimit { .. })
-}
-
-// The station that is reached from k by following closings.
+// The station that is reached from k by following closings. They form no ring, so 31 steps of the 32 suffice; a `while let`
+// would need that as its measure.
 fn open_station(net: &Network, k: StationNumber) -> StationNumber
     requires fit { NetworkFit net.now }
     ensures answer { result.number ≡ open_station net.now k.number }
@@ -77,14 +71,14 @@ impl<E: Agenda<Item = Event>, O: Agenda<Item = LineEntry>> Workshop<'_, E, O> {
         };
         match self.orders.put(k.number, entry) {
             Ok(stamp) => self.line_up(hand, k, stamp),
-            Err(refusal) => {
-                if is_limit(&refusal) {
-                    self.send_away(hand, k);
-                } else {
+            // a match of its own, whose last arm has for the proofs that the refusal is not the limit
+            Err(refusal) => match refusal {
+                Refusal::AtLimit { .. } => self.send_away(hand, k),
+                _ => {
                     self.fail(refusal, StoreName::Orders);
                     self.strand(hand);
                 }
-            }
+            },
         }
     }
 

@@ -24,8 +24,9 @@ pub(crate) enum Withdrawal {
 }
 
 impl<E: Agenda<Item = Event>, O: Agenda<Item = LineEntry>> Workshop<'_, E, O> {
-    // Order i, where it waits or is in service and the event is a withdrawal, is withdrawn. Its state is matched in place, and
-    // with the event in one: that is a rule of the project.
+    // Order i, where it waits or is in service and the event is a withdrawal, is withdrawn. A rule of the project: one match on
+    // the order's state and the event changes the state in place. Both together decide what is found, and one match shows that
+    // no pair of them is left out.
     fn pull_out(&mut self, i: u16, kind: EventKind) -> Withdrawal
         requires order { IsOrder i }
         ensures answer { result ≡ withdrawal (order self.old.net.now i).state kind }

@@ -2,9 +2,8 @@
 ghost use Rattle.std.specs.Prelude.{◌≡◌, ◌<◌, length};
 ghost use Rattle.machine.specs.Network.{station, open_station};
 ghost use Rattle.machine.specs.Step.{start, wait, enter, start_front};
-ghost use Rattle.simulations.specs.Calls.{Call};
 ghost use Rattle.simulations.specs.Conditions.{NetworkFit};
-ghost use Rattle.workshop.specs.Workshop.{simulated, Sound, Ready, Same};
+ghost use Rattle.workshop.specs.Workshop.{Ready, Works};
 
 use crate::{InHand, StationNumber, Workshop};
 use elements::{Event, EventKind, LineEntry};
@@ -33,9 +32,7 @@ impl<E: Agenda<Item = Event>, O: Agenda<Item = LineEntry>> Workshop<'_, E, O> {
         requires place { self.old.used < length self.old.places.now }
         requires bench { (station self.old.net.now k.number).busy < 8 }
         requires ready { Ready E.Store.sound O.Store.sound E.Store.meaning O.Store.meaning self.old }
-        ensures sound { Sound E.Store.sound O.Store.sound self.new }
-        ensures call { Call (start hand.order k.number) 1 (simulated E.Store.meaning O.Store.meaning self.old) (simulated E.Store.meaning O.Store.meaning self.new) }
-        ensures same { Same self.old self.new }
+        ensures works { Works E.Store.sound O.Store.sound E.Store.meaning O.Store.meaning (start hand.order k.number) 1 self.old self.new }
     {
         let takes = self.net.stations[k.number as usize].takes;
         let event = Event {
@@ -59,9 +56,7 @@ impl<E: Agenda<Item = Event>, O: Agenda<Item = LineEntry>> Workshop<'_, E, O> {
     fn wait(&mut self, hand: InHand, k: StationNumber)
         requires place { self.old.used < length self.old.places.now }
         requires ready { Ready E.Store.sound O.Store.sound E.Store.meaning O.Store.meaning self.old }
-        ensures sound { Sound E.Store.sound O.Store.sound self.new }
-        ensures call { Call (wait hand.order k.number) 1 (simulated E.Store.meaning O.Store.meaning self.old) (simulated E.Store.meaning O.Store.meaning self.new) }
-        ensures same { Same self.old self.new }
+        ensures works { Works E.Store.sound O.Store.sound E.Store.meaning O.Store.meaning (wait hand.order k.number) 1 self.old self.new }
     {
         let order = self.net.orders[hand.order as usize];
         let entry = LineEntry {
@@ -86,9 +81,7 @@ impl<E: Agenda<Item = Event>, O: Agenda<Item = LineEntry>> Workshop<'_, E, O> {
     pub(crate) fn enter(&mut self, hand: InHand, k: StationNumber)
         requires place { self.old.used < length self.old.places.now }
         requires ready { Ready E.Store.sound O.Store.sound E.Store.meaning O.Store.meaning self.old }
-        ensures sound { Sound E.Store.sound O.Store.sound self.new }
-        ensures call { Call (enter hand.order k.number) 1 (simulated E.Store.meaning O.Store.meaning self.old) (simulated E.Store.meaning O.Store.meaning self.new) }
-        ensures same { Same self.old self.new }
+        ensures works { Works E.Store.sound O.Store.sound E.Store.meaning O.Store.meaning (enter hand.order k.number) 1 self.old self.new }
     {
         let r = open_station(self.net, k);
         let station = self.net.stations[r.number as usize];
@@ -104,9 +97,7 @@ impl<E: Agenda<Item = Event>, O: Agenda<Item = LineEntry>> Workshop<'_, E, O> {
         requires place { self.old.used < length self.old.places.now }
         requires bench { (station self.old.net.now k.number).busy < 8 }
         requires ready { Ready E.Store.sound O.Store.sound E.Store.meaning O.Store.meaning self.old }
-        ensures sound { Sound E.Store.sound O.Store.sound self.new }
-        ensures call { Call (start_front k.number) 1 (simulated E.Store.meaning O.Store.meaning self.old) (simulated E.Store.meaning O.Store.meaning self.new) }
-        ensures same { Same self.old self.new }
+        ensures works { Works E.Store.sound O.Store.sound E.Store.meaning O.Store.meaning (start_front k.number) 1 self.old self.new }
     {
         let front = self.orders.take(k.number).ok().flatten();
         if let Some(entry) = front {

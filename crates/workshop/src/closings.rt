@@ -56,7 +56,7 @@ impl<E: Agenda<Item = Event>, O: Agenda<Item = LineEntry>> Workshop<'_, E, O> {
     fn fill(&mut self, j: StationNumber)
         requires places { self.old.used + 8 ≤ length self.old.places.now }
         requires ready { Ready E.Store.sound O.Store.sound E.Store.meaning O.Store.meaning self.old }
-        ensures works { Works E.Store.sound O.Store.sound E.Store.meaning O.Store.meaning (fill 8 j.number) 8 self.old self.new }
+        ensures { Works E.Store.sound O.Store.sound E.Store.meaning O.Store.meaning (fill 8 j.number) 8 self.old self.new }
     {
         'fill: for _turn in 0..8u8 {
             self.fill_turn(j);
@@ -67,7 +67,7 @@ impl<E: Agenda<Item = Event>, O: Agenda<Item = LineEntry>> Workshop<'_, E, O> {
     pub(crate) fn close(&mut self, k: StationNumber, j: StationNumber)
         requires places { self.old.used + 9 ≤ length self.old.places.now }
         requires ready { Ready E.Store.sound O.Store.sound E.Store.meaning O.Store.meaning self.old }
-        ensures works { Works E.Store.sound O.Store.sound E.Store.meaning O.Store.meaning (close k.number j.number) 9 self.old self.new }
+        ensures { Works E.Store.sound O.Store.sound E.Store.meaning O.Store.meaning (close k.number j.number) 9 self.old self.new }
     {
         if stays_open(self.net, k, j) {
             self.note(RecordKind::Kept {

@@ -27,7 +27,7 @@ impl<E: Agenda<Item = Event>, O: Agenda<Item = LineEntry>> Workshop<'_, E, O> {
     fn leave(&mut self, hand: InHand, k: StationNumber)
         requires place { self.old.used < length self.old.places.now }
         requires ready { Ready E.Store.sound O.Store.sound E.Store.meaning O.Store.meaning self.old }
-        ensures works { Works E.Store.sound O.Store.sound E.Store.meaning O.Store.meaning (leave hand.order k.number) 1 self.old self.new }
+        ensures { Works E.Store.sound O.Store.sound E.Store.meaning O.Store.meaning (leave hand.order k.number) 1 self.old self.new }
     {
         match self.net.stations[k.number as usize].next {
             Some(j) => self.enter(hand, StationNumber::new(j)),
@@ -40,7 +40,7 @@ impl<E: Agenda<Item = Event>, O: Agenda<Item = LineEntry>> Workshop<'_, E, O> {
     pub(crate) fn finish(&mut self, hand: InHand, k: StationNumber)
         requires places { self.old.used + 3 ≤ length self.old.places.now }
         requires ready { Ready E.Store.sound O.Store.sound E.Store.meaning O.Store.meaning self.old }
-        ensures works { Works E.Store.sound O.Store.sound E.Store.meaning O.Store.meaning (finish hand.order k.number) 3 self.old self.new }
+        ensures { Works E.Store.sound O.Store.sound E.Store.meaning O.Store.meaning (finish hand.order k.number) 3 self.old self.new }
     {
         self.vacate(hand.order, k);
         self.start_front(k);

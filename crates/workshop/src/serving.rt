@@ -32,7 +32,7 @@ impl<E: Agenda<Item = Event>, O: Agenda<Item = LineEntry>> Workshop<'_, E, O> {
         requires place { self.old.used < length self.old.places.now }
         requires bench { (station self.old.net.now k.number).busy < 8 }
         requires ready { Ready E.Store.sound O.Store.sound E.Store.meaning O.Store.meaning self.old }
-        ensures works { Works E.Store.sound O.Store.sound E.Store.meaning O.Store.meaning (start hand.order k.number) 1 self.old self.new }
+        ensures { Works E.Store.sound O.Store.sound E.Store.meaning O.Store.meaning (start hand.order k.number) 1 self.old self.new }
     {
         let takes = self.net.stations[k.number as usize].takes;
         let event = Event {
@@ -56,7 +56,7 @@ impl<E: Agenda<Item = Event>, O: Agenda<Item = LineEntry>> Workshop<'_, E, O> {
     fn wait(&mut self, hand: InHand, k: StationNumber)
         requires place { self.old.used < length self.old.places.now }
         requires ready { Ready E.Store.sound O.Store.sound E.Store.meaning O.Store.meaning self.old }
-        ensures works { Works E.Store.sound O.Store.sound E.Store.meaning O.Store.meaning (wait hand.order k.number) 1 self.old self.new }
+        ensures { Works E.Store.sound O.Store.sound E.Store.meaning O.Store.meaning (wait hand.order k.number) 1 self.old self.new }
     {
         let order = self.net.orders[hand.order as usize];
         let entry = LineEntry {
@@ -81,7 +81,7 @@ impl<E: Agenda<Item = Event>, O: Agenda<Item = LineEntry>> Workshop<'_, E, O> {
     pub(crate) fn enter(&mut self, hand: InHand, k: StationNumber)
         requires place { self.old.used < length self.old.places.now }
         requires ready { Ready E.Store.sound O.Store.sound E.Store.meaning O.Store.meaning self.old }
-        ensures works { Works E.Store.sound O.Store.sound E.Store.meaning O.Store.meaning (enter hand.order k.number) 1 self.old self.new }
+        ensures { Works E.Store.sound O.Store.sound E.Store.meaning O.Store.meaning (enter hand.order k.number) 1 self.old self.new }
     {
         let r = open_station(self.net, k);
         let station = self.net.stations[r.number as usize];
@@ -97,7 +97,7 @@ impl<E: Agenda<Item = Event>, O: Agenda<Item = LineEntry>> Workshop<'_, E, O> {
         requires place { self.old.used < length self.old.places.now }
         requires bench { (station self.old.net.now k.number).busy < 8 }
         requires ready { Ready E.Store.sound O.Store.sound E.Store.meaning O.Store.meaning self.old }
-        ensures works { Works E.Store.sound O.Store.sound E.Store.meaning O.Store.meaning (start_front k.number) 1 self.old self.new }
+        ensures { Works E.Store.sound O.Store.sound E.Store.meaning O.Store.meaning (start_front k.number) 1 self.old self.new }
     {
         let front = self.orders.take(k.number).ok().flatten();
         if let Some(entry) = front {

@@ -30,7 +30,7 @@ impl<E: Agenda<Item = Event>, O: Agenda<Item = LineEntry>> Workshop<'_, E, O> {
         requires kind { KindFit kind }
         requires places { self.old.used + step_places ≤ length self.old.places.now }
         requires ready { Ready E.Store.sound O.Store.sound E.Store.meaning O.Store.meaning self.old }
-        ensures works { Works E.Store.sound O.Store.sound E.Store.meaning O.Store.meaning (react kind) step_places self.old self.new }
+        ensures { Works E.Store.sound O.Store.sound E.Store.meaning O.Store.meaning (react kind) step_places self.old self.new }
     {
         match kind {
             EventKind::Arrive { order, station } => self.enter(

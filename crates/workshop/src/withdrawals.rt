@@ -63,7 +63,7 @@ impl<E: Agenda<Item = Event>, O: Agenda<Item = LineEntry>> Workshop<'_, E, O> {
         requires kind { kind ≡ Withdraw i }
         requires places { self.old.used + 2 ≤ length self.old.places.now }
         requires ready { Ready E.Store.sound O.Store.sound E.Store.meaning O.Store.meaning self.old }
-        ensures works { Works E.Store.sound O.Store.sound E.Store.meaning O.Store.meaning (withdraw i) 2 self.old self.new }
+        ensures { Works E.Store.sound O.Store.sound E.Store.meaning O.Store.meaning (withdraw i) 2 self.old self.new }
     {
         match self.pull_out(i, kind) {
             Withdrawal::FromLine { stamp } => {

@@ -7,7 +7,7 @@ returns-in-Some-clause-works g c =
     let e = sym c.due-due.ensures.answer ∙ c.in-Some.is in
     record {
       sound = search rules;
-      call = step_happens _ _ _ _ c.requires.ready.fit refl c.in-Some.event e _ _ (took_due _ _ _ _ c.requires.ready.fit refl c.in-Some.event e _ _ c.take.ensures.effect) _ c.react.ensures.works.call;
+      call = step_happens _ _ _ _ c.requires.ready.fit refl c.in-Some.event e _ _ (took_due _ _ _ _ c.requires.ready.fit refl c.in-Some.event e _ _ c.take.ensures.effect) _ c.react.ensures.call;
       same = search rules;
     }
 

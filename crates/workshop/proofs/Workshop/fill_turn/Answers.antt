@@ -4,7 +4,7 @@ use Rattle.workshop.proofs.Faults.{no_fault, a_fault}
 use Rattle.workshop.proofs.Workshop.fill_turn.Goals as goal
 
 pub returns-then-station-clause-turn : goal.returns-then-station-clause-turn
-returns-then-station-clause-turn g c = λ n a p. fill_on n c.args.j.number a _ p refl _ (no_fault _ (c.if-is_none.ensures)) (fill_starts c.args.j.number _ _ c.if-station.true c.start_front.ensures.works.call)
+returns-then-station-clause-turn g c = λ n a p. fill_on n c.args.j.number a _ p refl _ (no_fault _ (c.if-is_none.ensures)) (fill_starts c.args.j.number _ _ c.if-station.true c.start_front.ensures.call)
 
 pub returns-else-station-clause-turn : goal.returns-else-station-clause-turn
 returns-else-station-clause-turn g c = λ n a p. fill_on n c.args.j.number a _ p refl _ (no_fault _ (c.if-is_none.ensures)) (fill_rests c.args.j.number _ c.if-station.false c.requires.ready.fit)

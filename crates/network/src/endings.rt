@@ -7,7 +7,8 @@ use crate::Ended;
 use closing::totals;
 use machine::{Fault, Totals};
 
-// The closing line: the end with the orders by state, or the fault that ended the run before.
+// The closing line: the end with the orders by state, or the fault that ended the run before. It is no Result: a fault is as
+// good a last line of a trace as an end.
 #[derive(Clone, Copy, PartialEq, Eq, Debug)]
 pub enum Closing {
     End { at: u32, totals: Totals },

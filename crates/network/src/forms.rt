@@ -1,5 +1,6 @@
 // The forms of a draft: the numbers are tested for their ranges, the form for its place, the stations for having been
-// declared, and then the event store may refuse.
+// declared, and then the event store may refuse. A number in its range is narrowed by `as`: `try_from` would have an error that
+// cannot come.
 ghost use Rattle.std.specs.Prelude.{◌≡◌, ◌<◌, ◌≤◌, None};
 ghost use Rattle.machine.specs.declared.forms.Form.TheVariants.{Station as a-station, Order as an-order, Withdraw as a-withdrawal, Close as a-closing};
 ghost use Rattle.machine.specs.Network.{with_new_station, with_new_order};
@@ -38,8 +39,10 @@ fn announce<E: Agenda<Item = Event>>(
     Ok(())
 }
 
-// The clauses of the four forms are alike. A word for them would take the form, the draft, both stores and the answer, and be
-// no shorter.
+// The clauses of the four forms are alike. A word for them would have to take the form, the draft and both meanings before and
+// after, and the answer, so that a clause by that word is as long as the clauses.
+// A form comes as its numbers and not as a `Form`, since the call's name says which form it is.
+// `add_station` and `add_order` stay two: their arrays are of two types, and their counters of two widths.
 impl<'a> Draft<'a> {
     // One station more, which is station k.
     fn add_station(&mut self, k: usize, station: Station)

@@ -1,3 +1,4 @@
 mod Pulling
 mod Fronts
 mod Faults
+mod Limits

@@ -5,7 +5,9 @@ use Rattle.elements.specs.declared.lines.LineEntry.{LineEntry}
 use Rattle.stores.specs.Meaning.{Meaning}
 use Rattle.machine.specs.declared.networks.Network.{Network}
 use Rattle.machine.specs.declared.records.Record.{Record}
+use Rattle.machine.specs.Machine.{Machine}
 use Rattle.outcomes.specs.Simulation.{Control, Simulation}
+use Rattle.simulations.specs.Calls.{Call}
 use Rattle.simulations.specs.Conditions.{Fit}
 use Rattle.simulations.specs.Writes.{simulation}
 use Rattle.workshop.specs.declared.Run.{Run}
@@ -45,3 +47,9 @@ left w d ps = record {
 -- v holds the references that w holds
 abbrev pub Same : {E O : Type 0} → Workshop E O → Workshop E O → Type 0
 Same w v = (v.net.ghost_name ≡ w.net.ghost_name) × (v.run.ghost_name ≡ w.run.ghost_name) × (v.events.ghost_name ≡ w.events.ghost_name) × (v.orders.ghost_name ≡ w.orders.ghost_name) × (v.places.ghost_name ≡ w.places.ghost_name)
+
+-- what a call in a workshop keeps and does, which runs as the machine's f and writes at most n records
+pub record Works {E O : Type 0} (P : E → Type 0) (Q : O → Type 0) (m : E → Meaning Event) (l : O → Meaning LineEntry) (f : Machine → Machine) (n : ℕ) (w v : Workshop E O) : Type 0 where
+  pub sound : Sound P Q v
+  pub call : Call f n (simulated m l w) (simulated m l v)
+  pub same : Same w v

@@ -5,7 +5,7 @@ ghost use Rattle.machine.specs.Step.{stays_open, fill, close};
 ghost use Rattle.outcomes.specs.Simulation.{Simulation};
 ghost use Rattle.simulations.specs.Calls.{Call};
 ghost use Rattle.simulations.specs.Writes.{noted, shut};
-ghost use Rattle.workshop.specs.Workshop.{control, simulated, Sound, Ready, left, Same};
+ghost use Rattle.workshop.specs.Workshop.{control, simulated, Sound, Ready, left, Same, Works};
 
 use crate::{StationNumber, Workshop};
 use elements::{Event, LineEntry};
@@ -51,13 +51,12 @@ impl<E: Agenda<Item = Event>, O: Agenda<Item = LineEntry>> Workshop<'_, E, O> {
         }
     }
 
-    // While station j has a free bench and its line a front, that starts. A station has at most 8 benches.
+    // While station j has a free bench and its line a front, that starts. A station has at most 8 benches. The machine's own
+    // definition makes 8 turns; a condition would make fewer, and need a lemma that the rest do nothing.
     fn fill(&mut self, j: StationNumber)
         requires places { self.old.used + 8 ≤ length self.old.places.now }
         requires ready { Ready E.Store.sound O.Store.sound E.Store.meaning O.Store.meaning self.old }
-        ensures sound { Sound E.Store.sound O.Store.sound self.new }
-        ensures call { Call (fill 8 j.number) 8 (simulated E.Store.meaning O.Store.meaning self.old) (simulated E.Store.meaning O.Store.meaning self.new) }
-        ensures same { Same self.old self.new }
+        ensures { Works E.Store.sound O.Store.sound E.Store.meaning O.Store.meaning (fill 8 j.number) 8 self.old self.new }
     {
         'fill: for _turn in 0..8u8 {
             self.fill_turn(j);
@@ -68,9 +67,7 @@ impl<E: Agenda<Item = Event>, O: Agenda<Item = LineEntry>> Workshop<'_, E, O> {
     pub(crate) fn close(&mut self, k: StationNumber, j: StationNumber)
         requires places { self.old.used + 9 ≤ length self.old.places.now }
         requires ready { Ready E.Store.sound O.Store.sound E.Store.meaning O.Store.meaning self.old }
-        ensures sound { Sound E.Store.sound O.Store.sound self.new }
-        ensures call { Call (close k.number j.number) 9 (simulated E.Store.meaning O.Store.meaning self.old) (simulated E.Store.meaning O.Store.meaning self.new) }
-        ensures same { Same self.old self.new }
+        ensures { Works E.Store.sound O.Store.sound E.Store.meaning O.Store.meaning (close k.number j.number) 9 self.old self.new }
     {
         if stays_open(self.net, k, j) {
             self.note(RecordKind::Kept {

@@ -2,9 +2,8 @@
 ghost use Rattle.std.specs.Prelude.{◌≡◌, ◌+◌, ◌<◌, ◌≤◌, length};
 ghost use Rattle.machine.specs.declared.records.RecordKind.TheVariants.{Finish};
 ghost use Rattle.machine.specs.Step.{leave, finish};
-ghost use Rattle.simulations.specs.Calls.{Call};
 ghost use Rattle.simulations.specs.Writes.{noted, vacated};
-ghost use Rattle.workshop.specs.Workshop.{control, simulated, Sound, Ready, left, Same};
+ghost use Rattle.workshop.specs.Workshop.{control, Ready, left, Works};
 
 use crate::{InHand, StationNumber, Workshop};
 use elements::{Event, LineEntry};
@@ -28,9 +27,7 @@ impl<E: Agenda<Item = Event>, O: Agenda<Item = LineEntry>> Workshop<'_, E, O> {
     fn leave(&mut self, hand: InHand, k: StationNumber)
         requires place { self.old.used < length self.old.places.now }
         requires ready { Ready E.Store.sound O.Store.sound E.Store.meaning O.Store.meaning self.old }
-        ensures sound { Sound E.Store.sound O.Store.sound self.new }
-        ensures call { Call (leave hand.order k.number) 1 (simulated E.Store.meaning O.Store.meaning self.old) (simulated E.Store.meaning O.Store.meaning self.new) }
-        ensures same { Same self.old self.new }
+        ensures { Works E.Store.sound O.Store.sound E.Store.meaning O.Store.meaning (leave hand.order k.number) 1 self.old self.new }
     {
         match self.net.stations[k.number as usize].next {
             Some(j) => self.enter(hand, StationNumber::new(j)),
@@ -43,9 +40,7 @@ impl<E: Agenda<Item = Event>, O: Agenda<Item = LineEntry>> Workshop<'_, E, O> {
     pub(crate) fn finish(&mut self, hand: InHand, k: StationNumber)
         requires places { self.old.used + 3 ≤ length self.old.places.now }
         requires ready { Ready E.Store.sound O.Store.sound E.Store.meaning O.Store.meaning self.old }
-        ensures sound { Sound E.Store.sound O.Store.sound self.new }
-        ensures call { Call (finish hand.order k.number) 3 (simulated E.Store.meaning O.Store.meaning self.old) (simulated E.Store.meaning O.Store.meaning self.new) }
-        ensures same { Same self.old self.new }
+        ensures { Works E.Store.sound O.Store.sound E.Store.meaning O.Store.meaning (finish hand.order k.number) 3 self.old self.new }
     {
         self.vacate(hand.order, k);
         self.start_front(k);

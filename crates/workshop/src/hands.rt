@@ -12,8 +12,8 @@ use machine::{Fault, OrderState, Record, RecordKind, StoreName};
 use stores::{Agenda, Refusal};
 
 // An order that arrived, finished or was taken from a line. It may be let go only once it is spent: started, put in a line,
-// away, done or stranded. The flag is there, and no plain linear value in its stead, so that the prover, and not the
-// compiler, refuses code that lets an order fall: the must-fail edit `hand_falls` shows that.
+// away, done or stranded. The flag is there so that the prover refuses code that lets an order fall, as the must-fail edit
+// `hand_falls` shows. A linear value with no Drop is refused by the compiler there, which shows nothing of the prover.
 pub(crate) struct InHand {
     pub(crate) order: u16,
     spent: bool,

@@ -1,24 +1,17 @@
 // Starting, waiting and entering.
 ghost use Rattle.std.specs.Prelude.{◌≡◌, ◌<◌, length};
 ghost use Rattle.machine.specs.Network.{station, open_station};
-ghost use Rattle.machine.specs.Step.{at_limit, start, wait, enter, start_front};
-ghost use Rattle.simulations.specs.Calls.{Call};
+ghost use Rattle.machine.specs.Step.{start, wait, enter, start_front};
 ghost use Rattle.simulations.specs.Conditions.{NetworkFit};
-ghost use Rattle.workshop.specs.Workshop.{simulated, Sound, Ready, Same};
+ghost use Rattle.workshop.specs.Workshop.{Ready, Works};
 
 use crate::{InHand, StationNumber, Workshop};
 use elements::{Event, EventKind, LineEntry};
 use machine::{Network, StoreName};
 use stores::{Agenda, Refusal};
 
-// Whether the refusal is that of a limit.
-fn is_limit(refusal: &Refusal) -> bool
-    ensures { result ≡ at_limit refusal.now }
-{
-    matches!(refusal, Refusal::AtLimit { .. })
-}
-
-// The station that is reached from k by following closings.
+// The station that is reached from k by following closings. They form no ring, so 31 steps of the 32 suffice; a `while let`
+// would need that as its measure.
 fn open_station(net: &Network, k: StationNumber) -> StationNumber
     requires fit { NetworkFit net.now }
     ensures answer { result.number ≡ open_station net.now k.number }
@@ -39,9 +32,7 @@ impl<E: Agenda<Item = Event>, O: Agenda<Item = LineEntry>> Workshop<'_, E, O> {
         requires place { self.old.used < length self.old.places.now }
         requires bench { (station self.old.net.now k.number).busy < 8 }
         requires ready { Ready E.Store.sound O.Store.sound E.Store.meaning O.Store.meaning self.old }
-        ensures sound { Sound E.Store.sound O.Store.sound self.new }
-        ensures call { Call (start hand.order k.number) 1 (simulated E.Store.meaning O.Store.meaning self.old) (simulated E.Store.meaning O.Store.meaning self.new) }
-        ensures same { Same self.old self.new }
+        ensures { Works E.Store.sound O.Store.sound E.Store.meaning O.Store.meaning (start hand.order k.number) 1 self.old self.new }
     {
         let takes = self.net.stations[k.number as usize].takes;
         let event = Event {
@@ -65,9 +56,7 @@ impl<E: Agenda<Item = Event>, O: Agenda<Item = LineEntry>> Workshop<'_, E, O> {
     fn wait(&mut self, hand: InHand, k: StationNumber)
         requires place { self.old.used < length self.old.places.now }
         requires ready { Ready E.Store.sound O.Store.sound E.Store.meaning O.Store.meaning self.old }
-        ensures sound { Sound E.Store.sound O.Store.sound self.new }
-        ensures call { Call (wait hand.order k.number) 1 (simulated E.Store.meaning O.Store.meaning self.old) (simulated E.Store.meaning O.Store.meaning self.new) }
-        ensures same { Same self.old self.new }
+        ensures { Works E.Store.sound O.Store.sound E.Store.meaning O.Store.meaning (wait hand.order k.number) 1 self.old self.new }
     {
         let order = self.net.orders[hand.order as usize];
         let entry = LineEntry {
@@ -77,14 +66,14 @@ impl<E: Agenda<Item = Event>, O: Agenda<Item = LineEntry>> Workshop<'_, E, O> {
         };
         match self.orders.put(k.number, entry) {
             Ok(stamp) => self.line_up(hand, k, stamp),
-            Err(refusal) => {
-                if is_limit(&refusal) {
-                    self.send_away(hand, k);
-                } else {
+            // a match of its own, whose last arm has for the proofs that the refusal is not the limit
+            Err(refusal) => match refusal {
+                Refusal::AtLimit { .. } => self.send_away(hand, k),
+                _ => {
                     self.fail(refusal, StoreName::Orders);
                     self.strand(hand);
                 }
-            }
+            },
         }
     }
 
@@ -92,9 +81,7 @@ impl<E: Agenda<Item = Event>, O: Agenda<Item = LineEntry>> Workshop<'_, E, O> {
     pub(crate) fn enter(&mut self, hand: InHand, k: StationNumber)
         requires place { self.old.used < length self.old.places.now }
         requires ready { Ready E.Store.sound O.Store.sound E.Store.meaning O.Store.meaning self.old }
-        ensures sound { Sound E.Store.sound O.Store.sound self.new }
-        ensures call { Call (enter hand.order k.number) 1 (simulated E.Store.meaning O.Store.meaning self.old) (simulated E.Store.meaning O.Store.meaning self.new) }
-        ensures same { Same self.old self.new }
+        ensures { Works E.Store.sound O.Store.sound E.Store.meaning O.Store.meaning (enter hand.order k.number) 1 self.old self.new }
     {
         let r = open_station(self.net, k);
         let station = self.net.stations[r.number as usize];
@@ -110,9 +97,7 @@ impl<E: Agenda<Item = Event>, O: Agenda<Item = LineEntry>> Workshop<'_, E, O> {
         requires place { self.old.used < length self.old.places.now }
         requires bench { (station self.old.net.now k.number).busy < 8 }
         requires ready { Ready E.Store.sound O.Store.sound E.Store.meaning O.Store.meaning self.old }
-        ensures sound { Sound E.Store.sound O.Store.sound self.new }
-        ensures call { Call (start_front k.number) 1 (simulated E.Store.meaning O.Store.meaning self.old) (simulated E.Store.meaning O.Store.meaning self.new) }
-        ensures same { Same self.old self.new }
+        ensures { Works E.Store.sound O.Store.sound E.Store.meaning O.Store.meaning (start_front k.number) 1 self.old self.new }
     {
         let front = self.orders.take(k.number).ok().flatten();
         if let Some(entry) = front {

@@ -4,10 +4,10 @@ ghost use Rattle.stores.specs.Meaning.{list_of};
 ghost use Rattle.stores.specs.Calls.{front};
 ghost use Rattle.machine.specs.Lent.{step_places};
 ghost use Rattle.machine.specs.Step.{react, step, due_by, told_by};
-ghost use Rattle.simulations.specs.Calls.{Call, Steps, ByAnswer, due_in};
+ghost use Rattle.simulations.specs.Calls.{Steps, ByAnswer, due_in};
 ghost use Rattle.simulations.specs.Conditions.{KindFit, Fit};
 ghost use Rattle.simulations.specs.Writes.{simulation};
-ghost use Rattle.workshop.specs.Workshop.{under_way, simulated, Sound, Ready, Same};
+ghost use Rattle.workshop.specs.Workshop.{under_way, simulated, Sound, Ready, Same, Works};
 
 use crate::{InHand, Run, StationNumber, Workshop};
 use elements::{Event, EventKind, LineEntry};
@@ -30,9 +30,7 @@ impl<E: Agenda<Item = Event>, O: Agenda<Item = LineEntry>> Workshop<'_, E, O> {
         requires kind { KindFit kind }
         requires places { self.old.used + step_places ≤ length self.old.places.now }
         requires ready { Ready E.Store.sound O.Store.sound E.Store.meaning O.Store.meaning self.old }
-        ensures sound { Sound E.Store.sound O.Store.sound self.new }
-        ensures call { Call (react kind) step_places (simulated E.Store.meaning O.Store.meaning self.old) (simulated E.Store.meaning O.Store.meaning self.new) }
-        ensures same { Same self.old self.new }
+        ensures { Works E.Store.sound O.Store.sound E.Store.meaning O.Store.meaning (react kind) step_places self.old self.new }
     {
         match kind {
             EventKind::Arrive { order, station } => self.enter(
@@ -55,9 +53,7 @@ impl<E: Agenda<Item = Event>, O: Agenda<Item = LineEntry>> Workshop<'_, E, O> {
     fn advance(&mut self) -> Option<Event>
         requires places { self.old.used + step_places ≤ length self.old.places.now }
         requires ready { Ready E.Store.sound O.Store.sound E.Store.meaning O.Store.meaning self.old }
-        ensures sound { Sound E.Store.sound O.Store.sound self.new }
-        ensures call { Call step step_places (simulated E.Store.meaning O.Store.meaning self.old) (simulated E.Store.meaning O.Store.meaning self.new) }
-        ensures same { Same self.old self.new }
+        ensures works { Works E.Store.sound O.Store.sound E.Store.meaning O.Store.meaning step step_places self.old self.new }
         ensures answer { result ≡ due_in (simulated E.Store.meaning O.Store.meaning self.old) }
     {
         let due = self.run.due(self.events);

@@ -4,10 +4,9 @@ ghost use Rattle.elements.specs.declared.events.EventKind.TheVariants.{Withdraw}
 ghost use Rattle.machine.specs.declared.records.RecordKind.TheVariants.{Withdrawn};
 ghost use Rattle.machine.specs.Network.{order, marked, freed};
 ghost use Rattle.machine.specs.Step.{withdraw};
-ghost use Rattle.simulations.specs.Calls.{Call};
 ghost use Rattle.simulations.specs.Conditions.{IsOrder};
 ghost use Rattle.simulations.specs.Writes.{with_network, one_more, noted};
-ghost use Rattle.workshop.specs.Workshop.{control, simulated, Sound, Ready, left, Same};
+ghost use Rattle.workshop.specs.Workshop.{control, Ready, left, Works};
 ghost use Rattle.workshop.specs.Withdrawals.{withdrawal, state_after};
 
 use crate::{StationNumber, Workshop};
@@ -24,8 +23,9 @@ pub(crate) enum Withdrawal {
 }
 
 impl<E: Agenda<Item = Event>, O: Agenda<Item = LineEntry>> Workshop<'_, E, O> {
-    // Order i, where it waits or is in service and the event is a withdrawal, is withdrawn. Its state is matched in place, and
-    // with the event in one: that is a rule of the project.
+    // Order i, where it waits or is in service and the event is a withdrawal, is withdrawn. A rule of the project: one match on
+    // the order's state and the event changes the state in place. Both together decide what is found, and one match shows that
+    // no pair of them is left out.
     fn pull_out(&mut self, i: u16, kind: EventKind) -> Withdrawal
         requires order { IsOrder i }
         ensures answer { result ≡ withdrawal (order self.old.net.now i).state kind }
@@ -63,9 +63,7 @@ impl<E: Agenda<Item = Event>, O: Agenda<Item = LineEntry>> Workshop<'_, E, O> {
         requires kind { kind ≡ Withdraw i }
         requires places { self.old.used + 2 ≤ length self.old.places.now }
         requires ready { Ready E.Store.sound O.Store.sound E.Store.meaning O.Store.meaning self.old }
-        ensures sound { Sound E.Store.sound O.Store.sound self.new }
-        ensures call { Call (withdraw i) 2 (simulated E.Store.meaning O.Store.meaning self.old) (simulated E.Store.meaning O.Store.meaning self.new) }
-        ensures same { Same self.old self.new }
+        ensures { Works E.Store.sound O.Store.sound E.Store.meaning O.Store.meaning (withdraw i) 2 self.old self.new }
     {
         match self.pull_out(i, kind) {
             Withdrawal::FromLine { stamp } => {

@@ -8,9 +8,9 @@ returns-clause-steps g c =
     let p = c.advance-taken.ensures in
     record {
       enough = c.requires.places;
-      fit = p.call.fit;
-      whole = enough_suffice step _ _ p.call.outcome;
+      fit = p.works.call.fit;
+      whole = enough_suffice step _ _ p.works.call.outcome;
       written = refl;
-      few = omega (arith, p.call.few, c.requires.first);
+      few = omega (arith, p.works.call.few, c.requires.first);
       told = c.progress.ensures.answer ∙ ap (told_by c.advance-taken.new.self.run.now.fault) p.answer;
     }

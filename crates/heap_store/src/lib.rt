@@ -6,4 +6,5 @@ mod idle;
 mod store;
 
 pub use cells::fits;
+pub use idle::make_idle;
 pub use store::{HeapStore, make};

@@ -25,7 +25,7 @@ impl<B: Agenda> Journal<B> {
         requires { B.Store.sound below.now }
         ensures { Tests result OutOfRange (Fit (B.Store.meaning below.now) used) }
     {
-        if below.height() < 255 && used >= 1 && used <= 1024 {
+        if below.height() < 255 && (1..=1024).contains(&used) {
             Ok(())
         } else {
             Err(Unfit::OutOfRange)
@@ -56,7 +56,8 @@ impl<B: Agenda> Journal<B> {
 }
 
 // Beside what every store promises, each call that may change it says what it writes. The clauses of an impl stand in the
-// place of the trait's, so those are said again. The other calls are the store's below: no macro may write them.
+// place of the trait's, so those are said again. The other calls are the store's below: no macro may write them, and the
+// trait's calls have no bodies, since a store by itself has nothing below to pass on to.
 impl<B: Agenda> Store for Journal<B> {
     type Item = B::Item;
 

@@ -92,5 +92,5 @@ fn following(at: u16, used: u16) -> u16
 fn one_more(filled: u16, used: u16) -> u16
     ensures { result ≡ min (filled + 1) used }
 {
-    if filled < used { filled + 1 } else { used }
+    filled.saturating_add(1).min(used)
 }

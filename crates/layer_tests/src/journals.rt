@@ -27,9 +27,7 @@ fn last_changes_are_kept(rt: HostRuntime) -> Result<(), Fail> {
             stamps: 8,
         },
     );
-    let Ok(mut store) = journal_over_quota(table, [1; 32], 3) else {
-        return Err(Fail::new("unfit"));
-    };
+    let mut store = journal_over_quota(table, [1; 32], 3)?;
     passes(&mut store, &script)?;
     assert_eq!(rt; store.oldest(0), Some(Change::Meld { into: 0, from: 1 }));
     assert_eq!(rt; store.oldest(1), Some(Change::Take { queue: 0, stamp: 0 }));
@@ -62,22 +60,13 @@ fn places_are_tested(rt: HostRuntime) {
 #[test]
 fn whole_pile_over_a_heap(rt: HostRuntime) -> Result<(), Fail> {
     let mut links = [Link::idle(None); 4];
-    let mut entries = [Entry {
-        element: LineEntry {
-            order: 0,
-            urgency: 0,
-            due: 0,
-        },
-        stamp: 0,
-    }; 4];
+    let mut entries = [Entry::default(); 4];
     let sizes = stores::Sizes {
         cells: 4,
         stamps: 4,
     };
     let heap = leftist::make(&mut links, &mut entries, sizes);
-    let Ok(mut store) = journal_over_quota_over_lazy(heap, [65535; 32], 2) else {
-        return Err(Fail::new("unfit"));
-    };
+    let mut store = journal_over_quota_over_lazy(heap, [65535; 32], 2)?;
     passes(&mut store, &cancelled(1))?;
     assert_eq!(rt; store.oldest(0), Some(Change::Cancel { stamp: 0 }));
     assert_eq!(rt; store.oldest(1), Some(Change::Cancel { stamp: 2 }));

@@ -6,12 +6,6 @@ use std::test::Fail;
 use store_checks::{Answer, Call, FULL, MELDED, ORDERED, SPENT, cancelled, passes};
 use stores::Store;
 
-const BLANK: LineEntry = LineEntry {
-    order: 0,
-    urgency: 0,
-    due: 0,
-};
-
 fn run(
     rt: &impl AllocGlobal,
     cells: u16,
@@ -21,15 +15,10 @@ fn run(
     let heap = rt.alloc();
     let sizes = stores::Sizes { cells, stamps };
     let mut links = vec![in heap; Link::idle(None); cells as usize]?;
-    let mut entries = vec![in heap; Entry {
-        element: BLANK,
-        stamp: 0
-    }; cells as usize]?;
+    let mut entries = vec![in heap; Entry::default(); cells as usize]?;
     fits(&links, &entries, sizes)?;
     let store = make(&mut links, &mut entries, sizes);
-    if Lazy::fits(&store).is_err() {
-        return Err(Fail::new("unfit"));
-    }
+    Lazy::fits(&store)?;
     let mut lazy = Lazy::make(store);
     passes(&mut lazy, script)
 }
@@ -92,16 +81,13 @@ fn moved_entries_are_cancelled_where_they_are(rt: HostRuntime) -> Result<(), Fai
 #[test]
 fn used_heap_is_not_fresh(rt: HostRuntime) -> Result<(), Fail> {
     let mut links = [Link::idle(None); 1];
-    let mut entries = [Entry {
-        element: BLANK,
-        stamp: 0,
-    }; 1];
+    let mut entries = [Entry::default(); 1];
     let sizes = stores::Sizes {
         cells: 1,
         stamps: 2,
     };
     let mut store = make(&mut links, &mut entries, sizes);
-    let _ = store.put(0, BLANK);
+    let _ = store.put(0, LineEntry::default());
     let _ = store.take(0);
     let Err(unfit) = Lazy::fits(&store) else {
         return Err(Fail::new("made over a heap with stamps issued"));

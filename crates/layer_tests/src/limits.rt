@@ -13,9 +13,7 @@ fn run(inner: u16, outer: u16, script: &[(Call, Answer)]) -> Result<(), Fail> {
         stamps: 8,
     };
     let table = table::make(&mut cells, sizes);
-    let Ok(mut store) = quota_over_quota(table, [inner; 32], [outer; 32]) else {
-        return Err(Fail::new("unfit"));
-    };
+    let mut store = quota_over_quota(table, [inner; 32], [outer; 32])?;
     passes(&mut store, script)
 }
 

@@ -17,7 +17,8 @@ pub struct Lazy<B> {
 }
 
 impl<B: BareHeap> Lazy<B> {
-    // Whether the layer can stand over this heap.
+    // Whether the layer can stand over this heap. No heap is 255 high, by the law `bare`: that test stays, since how high the
+    // store below may be is the layer's own rule, whatever the law.
     pub fn fits(below: &B) -> Result<(), Unfit>
         requires { B.Store.sound below.now }
         ensures { Tested result (B.Store.meaning below.now) }
@@ -71,7 +72,7 @@ impl<B: BareHeap> Lazy<B> {
 }
 
 // The meaning is that of the heap below without its cancelled entries, which are held. What needs no mark is the heap's
-// call: no macro may write it.
+// call: no macro may write it, and the trait's calls have no bodies, since a store by itself has nothing below to pass on to.
 impl<B: BareHeap> Store for Lazy<B> {
     type Item = B::Item;
 

@@ -1,4 +1,5 @@
-// A limit for each queue, over any agenda.
+// A limit for each queue, over any agenda. A number is `as usize` at an index: to the proofs that is
+// the number itself, where `usize::from` is a call whose answer each proof would have to rewrite.
 #![tactic(auto)]
 
 mod limits;
@@ -47,7 +48,8 @@ impl<B: Agenda> Quota<B> {
 }
 
 // The meaning is that of the store below, with one more pair of limit and height on each queue. What a limit does not
-// concern is the store's below: no macro may write these calls.
+// concern is the store's below, call by call: no macro may write these calls, and the trait's calls have no bodies, since a
+// store by itself has nothing below to pass on to; one impl for all layers would need a second trait with the same contracts.
 impl<B: Agenda> Store for Quota<B> {
     type Item = B::Item;
 

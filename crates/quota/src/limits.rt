@@ -12,7 +12,7 @@ pub struct Limits {
 }
 
 impl Limits {
-    // Those of a layer over a store of the height `below`.
+    // Those of a layer over a store of the height `below`. Each layer's making asks `below < 255` once, and its test gives it.
     pub(crate) fn over(below: u8, limits: [u16; 32]) -> Limits
         requires { below < 255 }
         ensures limits { result.limits ≡ limits }

@@ -42,7 +42,8 @@ fn earlier<T: Ordered + Copy>(
     }
 }
 
-// The queue's front entry, and its cell. A fold would be no plainer: it has this step in a closure.
+// The queue's front entry, and its cell. A fold would be no plainer:
+// `fold(None, |front, (i, cell)| entry_in(cell, queue).map_or(front, |e| Some(earlier(front, i, e))))`.
 pub fn front_in<T: Ordered + Copy>(
     cells: &[Option<Record<T>>],
     queue: u8,

@@ -1,4 +1,6 @@
-// An agenda in one slice: every question is one pass over the cells.
+// An agenda in one slice: every question is one pass over the cells. A number is `as usize` where it is a
+// length: to the proofs that is the number itself, where `usize::from` is a call whose
+// answer each proof would have to rewrite.
 #![tactic(auto)]
 
 ghost use Rattle.std.specs.Prelude.{◌≡◌, ◌<◌, ◌≤◌, length, position, slice_set};

@@ -24,9 +24,7 @@ mod tests {
         script: &[(Call, Answer)],
     ) -> Result<(), Fail> {
         let sizes = Sizes { cells, stamps };
-        if fits(slice, sizes).is_err() {
-            return Err(Fail::new("unfit"));
-        }
+        fits(slice, sizes)?;
         passes(&mut make(slice, sizes), script)
     }
 

@@ -51,10 +51,8 @@ impl<B: BareHeap> Lazy<B> {
         requires near { queue < 32 }
         ensures { result ≡ front_cancelled self.now.own.queue_of (list_of (B.Store.meaning self.now.below).state queue) }
     {
-        match self.below.first(queue) {
-            Ok(Some(entry)) => self.own.queue(entry.stamp).is_none(),
-            _ => false,
-        }
+        let front = self.below.first(queue).ok().flatten();
+        front.is_some_and(|entry| self.own.queue(entry.stamp).is_none())
     }
 
     // The cancelled entries at the front of the queue leave the heap.

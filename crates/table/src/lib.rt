@@ -86,6 +86,8 @@ impl<'a, T: Ordered + Copy> Table<'a, T> {
     }
 }
 
+// The test of a queue's number stands in each call. Tried as `near(queue)?`: the ways out of put, take and meld by `?` were no
+// longer proved by the check alone, and each would need an answer that takes its conversion apart; `ok_or(..)?` likewise.
 impl<'a, T: Ordered + Copy> Store for Table<'a, T> {
     type Item = T;
 

@@ -9,6 +9,9 @@ ghost use Rattle.script.specs.Readings.{reading, applied, too_long};
 use machine::{Form, ScriptRefusal};
 use scanner::scan;
 
+// Each of the six readers is one template and one variant: a generic one would take the template, the number of gaps and a
+// closure for the variant, and be no plainer.
+
 // The station that the line tells, if it has a next one.
 fn read_station(line: &[u8]) -> Option<Form>
     ensures { result ≡ told_of (first_of (station_shape ∷ []) line.now) }

@@ -15,6 +15,7 @@ fn note_limit(limits: &mut [u16; 32], form: Form)
 {
     if let Form::Station { station, holds, .. } = form {
         if form.in_range() {
+            // It is in range, so it fits: `try_from` would have a failure that cannot come.
             limits[station as usize] = holds as u16;
         }
     }

@@ -7,14 +7,14 @@ mod tests {
     use scanner::{Lines, first_line};
     use script::{read_form, read_line, script_limits, too_long};
 
-    // The number of the line's refusal, or 0 where it tells a form.
-    fn refusal(line: &[u8]) -> u8 {
-        read_line(line).err().map_or(0, |refusal| refusal.number())
+    // The number of the line's refusal; none where it tells a form.
+    fn refusal(line: &[u8]) -> Option<u8> {
+        read_line(line).err().map(|refusal| refusal.number())
     }
 
     // Whether every line of the text is none of the forms.
     fn all_malformed(text: &[u8]) -> bool {
-        Lines::of(text).all(|line| refusal(line) == 4)
+        Lines::of(text).all(|line| refusal(line) == Some(4))
     }
 
     #[test]
@@ -78,7 +78,7 @@ mod tests {
 
     #[test]
     fn spaces_and_ends_are_exact(rt: HostRuntime) {
-        assert_eq!(rt; refusal(b"(end 9)"), 0);
+        assert_eq!(rt; refusal(b"(end 9)"), None);
         assert!(rt;
             all_malformed(
                 b"(end 9) \n (end 9)\n(end  9)\n( end 9)\n(end 9 )\n(end 9\n(END 9)\n\n(end 9))",
@@ -91,10 +91,10 @@ mod tests {
         );
         assert_eq!(rt;
             refusal(b"(end 9)\n"),
-            4,
+            Some(4),
             "the newline is no part of a line"
         );
-        assert_eq!(rt; refusal(b""), 4, "an empty line");
+        assert_eq!(rt; refusal(b""), Some(4), "an empty line");
     }
 
     #[test]
@@ -116,7 +116,7 @@ mod tests {
     #[test]
     fn numerals_have_no_needless_zero(rt: HostRuntime) {
         assert_eq!(rt; read_form(b"(end 0)"), Some(Form::End { at: 0 }));
-        assert_eq!(rt; refusal(b"(end 07)"), 4);
+        assert_eq!(rt; refusal(b"(end 07)"), Some(4));
         assert!(rt;
             all_malformed(
                 b"(end 00)\n(end )\n(end +7)\n(end -7)\n(end 0x7)\n(end 7.0)\n(withdraw 1 (at 01))",
@@ -139,20 +139,20 @@ mod tests {
         }
         assert_eq!(rt;
             refusal(b"(end 1234567890123456789012345678901234567890)"),
-            0,
+            None,
             "its range is tested later"
         );
         assert_eq!(rt;
             refusal(b"(station 0 (benches 1) (takes 0) (holds 1) (last))"),
-            0
+            None
         );
     }
 
     #[test]
     fn lengths_are_bounded(rt: HostRuntime) {
         let line = [b'('; 121];
-        assert_eq!(rt; refusal(&line[0..120]), 4);
-        assert_eq!(rt; refusal(&line), 3);
+        assert_eq!(rt; refusal(&line[0..120]), Some(4));
+        assert_eq!(rt; refusal(&line), Some(3));
         let script = [b'\n'; 65_537];
         assert!(rt; !too_long(&script[0..65_536]));
         assert!(rt; too_long(&script));

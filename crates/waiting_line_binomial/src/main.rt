@@ -2,8 +2,8 @@
 // binomial heaps.
 #![tactic(auto)]
 
-use heap_reports::printed;
 use binomial::Link;
+use heap_reports::printed;
 use waiting_line_runs::run;
 
 fn main(rt: HostRuntime) -> anyhow::Result<()> {

@@ -19,6 +19,7 @@ pub trait HeapLink<T: Ordered + Copy>: Copy {
     fn idle(next: Option<u16>) -> Self
         ensures { result ≡ (form T.Ordered.le).idle next };
 
+    // No body by default for either: each type of link keeps it in a field of its own.
     fn next_idle(&self) -> Option<u16>
         ensures { result ≡ (form T.Ordered.le).right self.now };
 

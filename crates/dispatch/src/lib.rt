@@ -55,6 +55,7 @@ pub fn admit<A: Agenda<Item = LineEntry>>(
     ensures effect { Admits line_le (A.Store.meaning line.old) orders.now result (A.Store.meaning line.new) }
 {
     for (index, order) in orders.iter().enumerate() {
+        // by `if let`: at a `map_err(..)?` the answers would have to take the closure apart (tried)
         if let Err(refusal) = line.put(0, *order) {
             return Err(Rejected { index, refusal });
         }

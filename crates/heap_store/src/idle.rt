@@ -14,6 +14,7 @@ pub fn make_idle<L: HeapLink<T>, T: Ordered + Copy>(links: &mut [L]) -> Option<u
     // by numbers: over `iter_mut().enumerate().rev()` an invariant cannot speak of the cells written so far
     for i in (0..links.len()).rev() {
         links[i] = L::idle(free);
+        // below 4,096, so that it fits
         free = Some(i as u16);
     }
     free

@@ -146,6 +146,7 @@ impl<'a, L: HeapLink<T>, T: Ordered + Copy> Store for HeapStore<'a, L, T> {
     }
 
     fn first(&self, queue: u8) -> Result<Option<Entry<T>>, Refusal> {
+        // by let-else: a closure of `and_then` would lend both slices, and be no plainer
         let Some(root) = self.heads.queue(queue)?.root else {
             return Ok(None);
         };
@@ -199,6 +200,7 @@ impl<'a, L: HeapLink<T>, T: Ordered + Copy> Store for HeapStore<'a, L, T> {
 
     fn sizes(&self) -> Sizes {
         Sizes {
+            // at most 4,096, so that it fits: `try_from` would have a failure that cannot come
             cells: self.links.len() as u16,
             stamps: self.heads.stamps,
         }

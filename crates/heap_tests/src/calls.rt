@@ -39,12 +39,10 @@ pub fn blank() -> Entry<Event> {
 }
 
 pub fn number(answer: Result<u16, Refusal>) -> Answer {
-    match answer {
-        Ok(n) => Answer::Number(n),
-        Err(e) => Answer::Refused(e.number()),
-    }
+    answer.map_or_else(|e| Answer::Refused(e.number()), |n| Answer::Number(n))
 }
 
+// By a match of three arms: a `map_or_else` would have a `map_or` within, and be no plainer.
 pub fn entry(answer: Result<Option<Entry<Event>>, Refusal>) -> Answer {
     match answer {
         Ok(Some(front)) => Answer::Entry {

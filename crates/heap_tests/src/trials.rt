@@ -118,10 +118,10 @@ fn empties<S: Store<Item = Event>>(store: &mut S, start: u32) -> Result<(), Fail
     ensures { S.Store.sound store.new }
 {
     for time in start..4096 {
-        let Answer::Entry { time: taken, .. } = entry(store.take(0)) else {
+        let Some(front) = store.take(0)? else {
             return Err(Fail::new("no entry"));
         };
-        check(taken == time)?;
+        check(front.element.time == time)?;
     }
     check(entry(store.take(0)) == Answer::Nothing)?;
     Ok(())

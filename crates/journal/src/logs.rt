@@ -59,6 +59,7 @@ impl Log {
         requires { WellKept self.now }
         ensures { result ≡ slice_get (recent self.now) i }
     {
+        // by `if`: in the closure of a `then` it is not known that i is below `filled` (tried)
         if i < self.filled {
             Some(self.places[self.place(i) as usize])
         } else {

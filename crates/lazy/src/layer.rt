@@ -124,6 +124,7 @@ impl<B: BareHeap> Store for Lazy<B> {
 
 impl<B: BareHeap> Agenda for Lazy<B> {
     fn cancel(&mut self, stamp: u16) -> Result<u8, Refusal> {
+        // by let-else: at an `ok_or(..)?` the answers would have to take its conversion apart (tried)
         let Some(queue) = self.own.queue(stamp) else {
             return Err(self.own.refusal());
         };

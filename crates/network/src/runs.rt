@@ -24,6 +24,7 @@ impl<'a> Draft<'a> {
         requires fit { Fit (drafted self (E.Store.meaning events.now) (O.Store.meaning orders.now) None) }
         ensures ends { Ends at self.entry (E.Store.meaning events.now) (O.Store.meaning orders.now) result }
     {
+        // by `if let`: the draft goes back with the reason, and on where there is none, so no closure can take it
         if let Err(why) = check(self.net, events.issued(), Form::End { at }) {
             return Err((self, why));
         }

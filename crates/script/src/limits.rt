@@ -27,6 +27,7 @@ pub fn script_limits(script: &[u8]) -> [u16; 32]
     ensures { result ≡ script_limits script.now }
 {
     let mut limits = [NO_LIMIT; 32];
+    // no `filter_map`: the invariant speaks of the lines that are left, which an iterator of forms would hide
     for line in Lines::of(script) {
         if let Some(form) = read_form(line) {
             note_limit(&mut limits, form);

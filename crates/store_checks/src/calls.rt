@@ -42,12 +42,10 @@ impl From<Refusal> for Answer {
 fn numbered(answer: Result<u16, Refusal>) -> Answer
     ensures { result ≡ numbered answer }
 {
-    match answer {
-        Ok(n) => Answer::Number(n),
-        Err(refusal) => Answer::from(refusal),
-    }
+    answer.map_or_else(|refusal| Answer::from(refusal), |n| Answer::Number(n))
 }
 
+// By a match of three arms: a `map_or_else` would have a `map_or` within, and be no plainer.
 fn fronted(answer: Result<Option<Entry<LineEntry>>, Refusal>) -> Answer
     ensures { result ≡ fronted answer }
 {

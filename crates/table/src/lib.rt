@@ -87,7 +87,8 @@ impl<'a, T: Ordered + Copy> Table<'a, T> {
 }
 
 // The test of a queue's number stands in each call. Tried as `near(queue)?`: the ways out of put, take and meld by `?` were no
-// longer proved by the check alone, and each would need an answer that takes its conversion apart; `ok_or(..)?` likewise.
+// longer proved by the check alone, and each would need an answer that takes its conversion apart; `ok_or(..)?` likewise. First
+// and count keep the test too: a helper for two calls of five would be one form more.
 impl<'a, T: Ordered + Copy> Store for Table<'a, T> {
     type Item = T;
 
@@ -157,6 +158,7 @@ impl<'a, T: Ordered + Copy> Store for Table<'a, T> {
 
     fn sizes(&self) -> Sizes {
         Sizes {
+            // at most 4,096, so that it fits: `try_from` would have a failure that cannot come
             cells: self.cells.len() as u16,
             stamps: self.stamps,
         }
@@ -169,6 +171,7 @@ impl<'a, T: Ordered + Copy> Store for Table<'a, T> {
 
 impl<'a, T: Ordered + Copy> Agenda for Table<'a, T> {
     fn cancel(&mut self, stamp: u16) -> Result<u8, Refusal> {
+        // by let-else: at an `ok_or(..)?` the answers would have to take its conversion apart
         let Some((i, record)) = self.stamped(stamp) else {
             return Err(Refusal::NotQueued { height: 0 });
         };

@@ -34,6 +34,7 @@ impl<'a> Writer<'a> {
         if number >= 10 {
             self.put_number(number / 10);
         }
+        // a digit fits: `try_from` would have a failure that cannot come
         self.put_byte(b'0' + (number % 10) as u8);
     }
 }

@@ -2,6 +2,7 @@
 use super::*;
 use std::test::Fail;
 
+// Not by `check` of store_checks, on which the program would then rest.
 fn check_printed(rt: &impl AllocGlobal, text: &[u8], expected: &str) -> Result<(), Fail> {
     let answer = printed(text, rt.alloc())?;
     if answer.as_str() == expected {
@@ -43,32 +44,33 @@ fn number_out_of_range(rt: HostRuntime) -> Result<(), Fail> {
     check_printed(&rt, b"0 0 99999999999999999999\n", "(refused 5 (line 1))\n")
 }
 
+// By a table of two cells and so many stamps.
+fn check_small(
+    rt: &impl AllocGlobal,
+    stamps: u16,
+    text: &[u8],
+    expected: &str,
+) -> Result<(), Fail> {
+    let sizes = Sizes { cells: 2, stamps };
+    let mut cells = vec![in rt.alloc(); None; 2]?;
+    table::fits(&cells, sizes)?;
+    let mut line = make(&mut cells, sizes);
+    let answer = report(&mut line, text, rt.alloc())?;
+    if answer.as_str() == expected {
+        Ok(())
+    } else {
+        Err(Fail::new("another answer is printed"))
+    }
+}
+
 #[test]
 fn out_of_cells(rt: HostRuntime) -> Result<(), Fail> {
-    let mut cells = vec![in rt.alloc(); None; 2]?;
-    let mut line = make(
-        &mut cells,
-        Sizes {
-            cells: 2,
-            stamps: 9,
-        },
-    );
-    let answer = report(&mut line, b"1 0 0\n2 0 0\n3 0 0\n", rt.alloc())?;
-    assert_eq!(rt; answer.as_str(), "(refused 12 (line 3) (layer 0))\n");
-    Ok(())
+    let text = b"1 0 0\n2 0 0\n3 0 0\n";
+    check_small(&rt, 9, text, "(refused 12 (line 3) (layer 0))\n")
 }
 
 #[test]
 fn out_of_stamps(rt: HostRuntime) -> Result<(), Fail> {
-    let mut cells = vec![in rt.alloc(); None; 2]?;
-    let mut line = make(
-        &mut cells,
-        Sizes {
-            cells: 2,
-            stamps: 1,
-        },
-    );
-    let answer = report(&mut line, b"1 0 0\n2 0 0\n", rt.alloc())?;
-    assert_eq!(rt; answer.as_str(), "(refused 13 (line 2) (layer 0))\n");
-    Ok(())
+    let text = b"1 0 0\n2 0 0\n";
+    check_small(&rt, 1, text, "(refused 13 (line 2) (layer 0))\n")
 }

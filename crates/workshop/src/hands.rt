@@ -90,6 +90,9 @@ impl<E: Agenda<Item = Event>, O: Agenda<Item = LineEntry>> Workshop<'_, E, O> {
         });
     }
 
+    // A function for each way to spend it, and none of any state and record: the contract of each is one word of the machine's
+    // writes (`queued`, `sent_away`, `completed`).
+
     // The order in hand waits in line k.
     pub(crate) fn line_up(&mut self, hand: InHand, k: StationNumber, stamp: u16)
         requires place { self.old.used < length self.old.places.now }

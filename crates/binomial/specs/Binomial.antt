@@ -39,6 +39,10 @@ link_of c s = record { child = root c; next = root s; degree = trees c }
 abbrev pub no_link : Link
 no_link = record { child = None; next = None; degree = 0 }
 
+-- a root with no children and no siblings
+abbrev pub alone : Link
+alone = record { child = None; next = None; degree = 0 }
+
 -- the same node before other siblings
 abbrev pub before_next : Link → Option ℕ → Link
 before_next k o = record { child = k.child; next = o; degree = k.degree }

@@ -43,11 +43,7 @@ impl<T: Ordered + Copy> HeapLink<T> for Link {
     ghost form = { binomial };
 
     fn single() -> Link {
-        Link {
-            child: None,
-            next: None,
-            degree: 0,
-        }
+        Link::single()
     }
 
     fn idle(next: Option<u16>) -> Link {

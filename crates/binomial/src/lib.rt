@@ -10,4 +10,5 @@ mod trees;
 pub use heap_store::{fits, make};
 pub use heaps::Binomial;
 pub use links::Link;
+pub use roots::{least, take_out, turn_over};
 pub use trees::degrees_are_low;

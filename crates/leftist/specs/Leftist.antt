@@ -23,6 +23,10 @@ link_of l r = record { left = root l; right = root r; rank = rank r + 1 }
 abbrev pub no_link : Link
 no_link = record { left = None; right = None; rank = 0 }
 
+-- a node with no subtrees
+abbrev pub alone : Link
+alone = record { left = None; right = None; rank = 1 }
+
 -- an idle cell names the next one on the right
 abbrev pub idle_to : Option ℕ → Link
 idle_to o = record { left = None; right = o; rank = 0 }

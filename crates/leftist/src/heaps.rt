@@ -16,11 +16,7 @@ impl<T: Ordered + Copy> HeapLink<T> for Link {
     ghost form = { leftist };
 
     fn single() -> Link {
-        Link {
-            left: None,
-            right: None,
-            rank: 1,
-        }
+        Link::single()
     }
 
     fn idle(next: Option<u16>) -> Link {

@@ -40,10 +40,7 @@ impl<T: Ordered + Copy> HeapLink<T> for Link {
     ghost form = { pairing };
 
     fn single() -> Link {
-        Link {
-            child: None,
-            next: None,
-        }
+        Link::single()
     }
 
     fn idle(next: Option<u16>) -> Link {

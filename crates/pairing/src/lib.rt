@@ -9,3 +9,4 @@ mod passes;
 pub use heap_store::{fits, make};
 pub use heaps::Pairing;
 pub use links::Link;
+pub use passes::{gather, pair_up};

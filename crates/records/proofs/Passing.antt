@@ -1,7 +1,8 @@
 -- One pass over the cells: what is known after i of them.
-use Rattle.std.proofs.Common.{◌≡◌, ℕ, ◌+◌, ◌<◌, ◌≤◌, Bool, true, false, eqb, ◌⊎◌, List, ◌∷◌, length, get_or, drop, Some, None, Option, sym, ap, ◌∙◌, subst, inl, inr, arith}
+use Rattle.std.proofs.Common.{◌≡◌, ℕ, ◌+◌, ◌<◌, ◌≤◌, Bool, true, false, cond, eqb, ◌⊎◌, List, ◌∷◌, length, get_or, take, drop, is_some, Some, None, Option, sym, ap, ◌∙◌, subst, inl, inr, arith}
 use Rattle.std.proofs.lemmas.List.{at_drop_more, at_drop_all}
 use Rattle.std.proofs.lemmas.List.Elements.{at_read}
+use Rattle.std.proofs.lemmas.List.Sums.{sum_by_more}
 use Rattle.std.proofs.lemmas.Bool.{cases_Bool, cond-true, cond-false, eqb-true}
 use Rattle.elements.specs.declared.entries.Entry.{Entry}
 use Rattle.elements.specs.Order.{Laws, precedes_by}
@@ -9,7 +10,7 @@ use Rattle.elements.proofs.Strictness.{strict}
 use Rattle.stores.specs.SortedLists.{insert}
 use Rattle.stores.specs.Calls.{front}
 use Rattle.stores.proofs.Inserting.{front_behind, front_ahead}
-use Rattle.records.specs.Cells.{Cell, entry_in, entering, queue_of, Holds, FrontAt, earlier}
+use Rattle.records.specs.Cells.{Cell, entry_in, entering, queue_of, queued, Holds, FrontAt, earlier}
 
 -- at the element x, which stands at i
 module _ {X : Type 0} (xs : List X) (i : ℕ) (x : X) (l : i < length xs) (read : x ≡ get_or xs i x) where
@@ -17,6 +18,14 @@ module _ {X : Type 0} (xs : List X) (i : ℕ) (x : X) (l : i < length xs) (read 
   left_more F = at_drop_more F xs i x l ∙ ap (λ y. F (y ∷ drop (i + 1) xs)) (sym read)
 
 module _ {T : Type 0} where
+  -- of the first i cells and the next one
+  pub queued_more : (q n : ℕ) (cs : List (Cell T)) (i : ℕ) (c : Cell T) (b : Bool) → i < length cs → c ≡ get_or cs i c → n ≡ queued q (take i cs) → b ≡ is_some (entry_in q c) → n + cond b 1 0 ≡ queued q (take (i + 1) cs)
+  queued_more q n cs i c b l read so e =
+      let m = sum_by_more (λ (x : Cell T). cond (is_some (entry_in q x)) 1 0) cs i c l in
+      let f = ap (λ (x : Cell T). cond {A = ℕ} (is_some (entry_in q x)) 1 0) read in
+      let g = ap (λ (x : Bool). cond {A = ℕ} x 1 0) e in
+      omega (arith, so, m, f, g)
+
   -- an entry of queue q stands in a record of queue q
   pub entry_here : (q : ℕ) (c : Cell T) (e : Entry T) → Some e ≡ entry_in q c → c ≡ Some (record { queue = q; entry = e })
   entry_here q None e h = absurd (let z : ◌≡◌ {A = ℕ} 0 1 = cc in omega arith)

@@ -20,10 +20,8 @@ module _ (before between after : List ℕ) (at mid next : ℕ) (bytes more : Lis
 
 -- the digits of a number: one, or the last one behind those of a tenth of it
 module _ (n : ℕ) (small : n < 2 ^ 32) where
-  pub only_digit : (before after : List ℕ) (at next : ℕ) → n < 10 → Put before at ((48 + n % 10) ∷ []) after next → Put before at (decimal n) after next
-  only_digit before after at next l p =
-      let e : n ≡ n % 10 = omega arith in
-      subst (λ ds. Put before at ds after next) (ap (λ d. (48 + d) ∷ []) (sym e) ∙ sym (decimal_digit n l)) p
+  pub first_digit : (before after : List ℕ) (at next : ℕ) → n < 10 → Put before at ((48 + n) ∷ []) after next → Put before at (decimal n) after next
+  first_digit before after at next l p = subst (λ ds. Put before at ds after next) (sym (decimal_digit n l)) p
 
   pub last_digit : (before between after : List ℕ) (at mid next : ℕ) → 10 ≤ n → Put before at (decimal (n / 10)) between mid → Put between mid ((48 + n % 10) ∷ []) after next → Put before at (decimal n) after next
   last_digit before between after at mid next l p q = subst (λ ds. Put before at ds after next) (sym (decimal_step n l (omega arith))) (both _ _ _ _ _ _ _ _ p q)

@@ -24,19 +24,31 @@ impl<'a> Writer<'a> {
         self.at += 1;
     }
 
-    // Puts the digits of the number, of which there are at most ten.
     fn put_number(&mut self, number: u32)
         requires { self.old.at + 10 ≤ length self.old.out.now }
         ensures same_buffer { self.new.out.ghost_name ≡ self.old.out.ghost_name }
         ensures same_length { length self.new.out.now ≡ length self.old.out.now }
         ensures put { Put self.old.out.now self.old.at (decimal number) self.new.out.now self.new.at }
     {
-        if number >= 10 {
-            self.put_number(number / 10);
-        }
-        // a digit fits: `try_from` would have a failure that cannot come
-        self.put_byte(b'0' + (number % 10) as u8);
+        self.at = put_digits(self.out, self.at, number);
     }
+}
+
+// Puts the digits of the number, of which there are at most ten, and answers the place behind them. The place goes from
+// call to call in a register: a writer lent to a call that calls itself is read and written in memory, and a line then
+// takes up to twice the time.
+fn put_digits(out: &mut [u8], at: usize, number: u32) -> usize
+    requires { at + 10 ≤ length out.old }
+    ensures { Put out.old at (decimal number) out.new result }
+{
+    // a digit fits: `try_from` would have a failure that cannot come
+    if number < 10 {
+        out[at] = b'0' + number as u8;
+        return at + 1;
+    }
+    let last = put_digits(out, at, number / 10);
+    out[last] = b'0' + (number % 10) as u8;
+    last + 1
 }
 
 // Writes the template with the numbers in its gaps to the front of the buffer, and answers how many bytes that are. A gap
